@@ -1,0 +1,6 @@
+pub mod BayReads
+pub mod Entries
+pub mod FirstDevice
+pub mod RowParts
+pub mod States
+mod ImageSizes

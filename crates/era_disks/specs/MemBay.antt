@@ -1,0 +1,37 @@
+-- What a bay in memory tells.
+use Rattle.std.specs.Prelude.{ℕ, ◌+◌, ◌≤◌, List, length, Option}
+use Rattle.era_base.specs.Bay.{Loan, IsFree}
+use Rattle.era_disks.specs.Loans.{loans_of}
+use Rattle.era_disks.specs.Devices.{device_of, device_reads, device_size, device_failing, IsFoundAt}
+use Rattle.era_disks.specs.MemDisk.{place_of, sectors_of}
+use Rattle.era_disks.specs.declared.mem_disk.MemDisk.{MemDisk}
+use Rattle.era_disks.specs.declared.mem_bay.MemBay.{MemBay}
+
+-- The size of each device that the bay holds.
+abbrev pub sizes_of : MemBay → List ℕ → Option ℕ
+sizes_of bay name = device_size (device_of bay.devices.items name)
+
+-- What the sectors of the bay's devices read as.
+abbrev pub reads_of : MemBay → List ℕ → ℕ → Option (List ℕ)
+reads_of bay name sector = device_reads (device_of bay.devices.items name) sector
+
+-- All loans of the bay.
+abbrev pub bay_loans : MemBay → List (Loan MemDisk)
+bay_loans bay = loans_of bay.loans.entries.items
+
+-- How often the bay has failed.
+abbrev pub bay_faults : MemBay → ℕ
+bay_faults bay = bay.faults
+
+-- The numbers of the writes that fail of each disk of a device that is lent.
+abbrev pub failing_of : MemBay → List ℕ → Option (List ℕ)
+failing_of bay name = device_failing (device_of bay.devices.items name)
+
+-- So many sectors from a sector on lie on the device at an index of the bay's devices.
+pub record LiesAt (bay : MemBay) (name : List ℕ) (index first sectors : ℕ) : Type 0 where
+  pub found : IsFoundAt bay.devices.items name index
+  pub fits : first + sectors ≤ length found.device.state.rows.items
+
+-- A sector of the range of the device is lent.
+abbrev pub IsRefusedAt : MemBay → List ℕ → ℕ → ℕ → Type 0
+IsRefusedAt bay name first sectors = IsFree place_of sectors_of (bay_loans bay) name first sectors → ⊥

@@ -1,0 +1,64 @@
+-- What a disk in memory is.
+use Rattle.std.specs.Prelude.{◌≡◌, ℕ, ◌+◌, ◌-◌, ◌*◌, ◌^◌, ◌<◌, ◌≤◌, min, true, false, List, [], ◌∷◌, ◌++◌, length, replicate, Contains}
+use Rattle.era_base.specs.CrashModel.{State, History, is_pending}
+use Rattle.era_base.specs.Disk.{Place}
+use Rattle.era_disks.specs.Rows.{bytes_of}
+use Rattle.era_disks.specs.declared.mem_state.MemState.{MemState}
+use Rattle.era_disks.specs.declared.past.Past.{Past}
+use Rattle.era_disks.specs.declared.past.Past.TheVariants.{Start, After'}
+use Rattle.era_disks.specs.declared.mem_disk.MemDisk.{MemDisk}
+
+-- The state of sectors in memory.
+abbrev pub state_of : MemState → State
+state_of now = record { seen = bytes_of now.rows.items; pending = now.pending.items }
+
+-- The past states, the first one first.
+abbrev pub past_of : Past → List State
+past_of Start = []
+past_of (After' now marker before) = past_of before ++ state_of now.value ∷ []
+
+-- The states of a disk in memory.
+abbrev pub history_of : MemDisk → History
+history_of disk = record { past = past_of disk.past; now = state_of disk.state }
+
+-- Where a disk in memory lies.
+abbrev pub place_of : MemDisk → Place
+place_of disk = record { device = disk.device; first = disk.first }
+
+-- How many sectors a disk in memory has.
+abbrev pub sectors_of : MemDisk → ℕ
+sectors_of disk = length disk.state.rows.items
+
+-- How often a disk in memory has failed.
+abbrev pub faults_of : MemDisk → ℕ
+faults_of disk = disk.faults
+
+-- How often a disk in memory was refused memory.
+abbrev pub starved_of : MemDisk → ℕ
+starved_of disk = disk.starved
+
+-- The next write of the disk is one of those that fail.
+abbrev pub IsNamed : MemDisk → Type 0
+IsNamed disk = Contains disk.failing.items disk.writes
+
+-- The sectors of so many bytes from a sector on are pending.
+abbrev pub IsMarked : ℕ → ℕ → State → Type 0
+IsMarked first count state = (offset : ℕ) → first * 512 ≤ offset → offset < first * 512 + count → is_pending state offset ≡ true
+
+-- The state in which all is zero and nothing is pending.
+abbrev pub blank_state : ℕ → State
+blank_state sectors = record { seen = replicate (sectors * 512) 0; pending = replicate sectors false }
+
+-- The disk's list of failing writes stays, and no write was begun.
+pub record NoWrite (old new : MemDisk) : Type 0 where
+  pub failing : new.failing.items ≡ old.failing.items
+  pub writes : new.writes ≡ old.writes
+
+-- The disk's list of failing writes stays, and one write was begun.
+pub record OneWrite (old new : MemDisk) : Type 0 where
+  pub failing : new.failing.items ≡ old.failing.items
+  pub writes : new.writes ≡ min (old.writes + 1) (2 ^ 64 - 1)
+
+-- Memory was not refused.
+abbrev pub IsFed : MemDisk → MemDisk → Type 0
+IsFed old new = new.starved ≡ old.starved

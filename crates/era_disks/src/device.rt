@@ -1,0 +1,104 @@
+//! A device of a bay in memory.
+
+ghost use Rattle.std.specs.Prelude.{◌≡◌, ◌≢◌, [], ◌∷◌, ◌++◌, ◌+◌, ◌≤◌, length, take, drop, position, Some, None, IfSome, IfNone, IfOk, OnOk};
+ghost use Rattle.era_disks.specs.Devices.{IsFoundAt, device_of, has_name};
+ghost use Rattle.era_disks.specs.MemDisk.{place_of, sectors_of, faults_of, starved_of};
+ghost use Rattle.era_disks.specs.Rows.{bytes_of};
+ghost use borrow.Rule.Slice.PartMut.{put_mid};
+
+use crate::mem_disk::MemDisk;
+use crate::mem_state::MemState;
+use crate::rows::{append_row, copy_rows};
+use era_base::{Bytes, Memory, Name};
+use std::alloc::Global;
+
+/// A device by name: its sectors, and the numbers of the writes that fail of each disk of it that is lent.
+#[derive(Drop)]
+pub struct Device {
+    pub name: Name,
+    pub state: MemState,
+    pub failing: Vec<u64>,
+}
+
+impl Device {
+    /// Copies `sectors` sectors from sector `first` on into a disk.
+    pub fn lend(&self, alloc: Global, first: u64, sectors: u64) -> Result<MemDisk, Memory>
+        requires { first + sectors ≤ length self.now.state.rows.items }
+        ensures place { IfOk result (λ disk. place_of disk ≡ record { device = self.now.name; first = first }) }
+        ensures rows { IfOk result (λ disk. disk.state.rows.items ≡ take sectors (drop first self.now.state.rows.items)) }
+        ensures size { IfOk result (λ disk. sectors_of disk ≡ sectors) }
+        ensures failing { IfOk result (λ disk. disk.failing.items ≡ self.now.failing.items) }
+        ensures fresh { IfOk result (λ disk. (faults_of disk ≡ 0) × (starved_of disk ≡ 0) × (disk.writes ≡ 0)) }
+    {
+        let from = first as usize;
+        let to = from + sectors as usize;
+        let device = Name::from_text(alloc, self.name.as_str())?;
+        let rows = copy_rows(alloc, &self.state.rows[from..to])?;
+        let pending = Vec::from_slice(alloc, &self.state.pending[from..to])?;
+        let failing = Vec::from_slice(alloc, self.failing.as_slice())?;
+        let state = MemState { rows, pending };
+        Ok(MemDisk::of(alloc, device, first, state, failing))
+    }
+
+    /// The number of sectors.
+    pub fn sectors(&self) -> u64
+        ensures { result ≡ length self.now.state.rows.items }
+    {
+        self.state.rows.len() as u64
+    }
+
+    /// From now on the write with this number fails, until a disk is put back.
+    pub fn fail_write(&mut self, number: u64) -> Result<(), Memory>
+        ensures ok { OnOk result (self.new.failing.items ≡ self.old.failing.items ++ number ∷ []) }
+        ensures name { self.new.name ≡ self.old.name }
+        ensures rows { self.new.state.rows.items ≡ self.old.state.rows.items }
+    {
+        self.failing.push(number)?;
+        Ok(())
+    }
+
+    /// All bytes of the device.
+    pub fn content(&self, alloc: Global) -> Result<Bytes, Memory>
+        ensures { IfOk result (λ bytes. bytes ≡ bytes_of self.now.state.rows.items) }
+    {
+        let rows = self.state.rows.as_slice();
+        let mut bytes = Vec::new(alloc);
+        for row in rows {
+            append_row(&mut bytes, row)?;
+        }
+        Ok(Bytes::from_vec(bytes))
+    }
+
+    /// Takes the sectors of a lent disk back, and forgets the writes that fail. It takes no memory.
+    pub fn take_back(&mut self, first: usize, mut state: MemState)
+        requires { first + length state.rows.items ≤ length self.old.state.rows.items }
+        ensures name { self.new.name ≡ self.old.name }
+        ensures rows { self.new.state.rows.items
+            ≡ put_mid first (length state.rows.items) self.old.state.rows.items state.rows.items }
+    {
+        let sectors = state.rows.len();
+        self.state.rows[first..first + sectors].swap_with_slice(state.rows.as_mut_slice());
+        self.state.pending[first..first + sectors].copy_from_slice(state.pending.as_slice());
+        self.failing.clear();
+    }
+}
+
+/// The index of the first device with a name.
+pub fn find_device(devices: &[Device], name: &str) -> Option<usize>
+    ensures some { IfSome result (λ index. IsFoundAt devices.now name.now index) }
+    ensures none { IfNone result (device_of devices.now name.now ≡ None) }
+{
+    match position_of(devices, name) {
+        Some(index) => Some(index),
+        None => None,
+    }
+}
+
+/// The index of the first device with a name.
+fn position_of(devices: &[Device], name: &str) -> Option<usize>
+    ensures { result ≡ position (has_name name.now) devices.now }
+{
+    devices
+        .iter()
+        .position(|device| device.name.as_str() == name)
+}

@@ -1,0 +1,33 @@
+//! Disks, bays and streams in memory, and the pace that never holds.
+#![tactic(auto)]
+
+mod device;
+mod fault_count;
+mod file_bay;
+mod file_disk;
+mod free_pace;
+#[cfg(test)]
+mod host_tests;
+mod image_file;
+mod loan_entry;
+mod loans;
+mod mem_bay;
+mod mem_disk;
+mod mem_state;
+mod past;
+mod rows;
+mod std_streams;
+mod text_sink;
+mod text_source;
+
+pub use fault_count::FaultCount;
+pub use file_bay::FileBay;
+pub use file_disk::FileDisk;
+pub use free_pace::FreePace;
+pub use loan_entry::LoanEntry;
+pub use loans::Loans;
+pub use mem_bay::MemBay;
+pub use mem_disk::MemDisk;
+pub use std_streams::{StdSink, StdSource};
+pub use text_sink::TextSink;
+pub use text_source::TextSource;

@@ -1,0 +1,261 @@
+//! A bay in memory. A lent disk has a copy of its sectors, and `put_back` moves them into the device.
+
+ghost use Rattle.era_disks.specs.Loans.{loans_of};
+ghost use Rattle.era_disks.specs.Devices.{LieWithin};
+
+use crate::device::{Device, find_device};
+use crate::loans::Loans;
+use crate::mem_disk::MemDisk;
+use crate::mem_state::MemState;
+use era_base::{Bay, BayError, Bytes, Disk, Memory, Name};
+use std::alloc::Global;
+
+/// Devices in memory, by name, and the loans of them.
+#[derive(Drop)]
+pub struct MemBay {
+    alloc: Global,
+    devices: Vec<Device>,
+    loans: Loans<MemDisk>,
+    faults: u64,
+    ghost within: { LieWithin devices.items (loans_of loans.entries.items) },
+}
+
+impl MemBay {
+    ghost use Rattle.std.specs.Prelude.{◌≡◌, ℕ, List, ◌+◌, ◌*◌, ◌≤◌, [], ◌∷◌, ◌++◌, length, take, drop, replicate, Some, None, IfOk, IfSome, IfNone, OnOk, OnErr, IsErrOf};
+    ghost use Rattle.era_base.specs.Bay.{new_loan, HasContent, SameReadsBut, ReadsAs, NowReadsAs, IsFree, IsOut, EndsLoan, HasBayCause};
+    ghost use Rattle.era_disks.specs.MemDisk.{place_of, sectors_of, history_of};
+    ghost use Rattle.era_disks.specs.MemBay.{sizes_of, reads_of, bay_loans, bay_faults, failing_of, LiesAt};
+    ghost use Rattle.era_disks.specs.Devices.{IsFoundAt, device_of, device_length};
+
+    /// A bay that holds no device. It takes no memory.
+    pub fn new(alloc: Global) -> MemBay
+        ensures none { (name : List ℕ) → sizes_of result name ≡ None }
+        ensures loans { bay_loans result ≡ [] }
+        ensures faults { bay_faults result ≡ 0 }
+    {
+        MemBay {
+            alloc,
+            devices: Vec::new(alloc),
+            loans: Loans::new(alloc),
+            faults: 0,
+        }
+    }
+
+    /// Adds a device of zeros.
+    pub fn add(&mut self, name: &str, sectors: u64) -> Result<(), Memory>
+        requires { sizes_of self.old name.now ≡ None }
+        ensures size { OnOk result (sizes_of self.new name.now ≡ Some sectors) }
+        ensures zeros { OnOk result (HasContent (reads_of self.new) name.now sectors (replicate (sectors * 512) 0)) }
+        ensures others { (other : List ℕ) → (other ≡ name.now → ⊥) → (sizes_of self.new other ≡ sizes_of self.old other)
+            × ((sector : ℕ) → reads_of self.new other sector ≡ reads_of self.old other sector) }
+        ensures err { OnErr result (self.new.devices.items ≡ self.old.devices.items) }
+        ensures rest { (bay_loans self.new ≡ bay_loans self.old) × (bay_faults self.new ≡ bay_faults self.old) }
+    {
+        let device = Device {
+            name: Name::from_text(self.alloc, name)?,
+            state: MemState::new(self.alloc, sectors as usize)?,
+            failing: Vec::new(self.alloc),
+        };
+        self.devices.push(device)?;
+        Ok(())
+    }
+
+    /// The bytes of a device that the bay holds.
+    pub fn content(&self, alloc: Global, name: &str) -> Result<Option<Bytes>, Memory>
+        ensures held { IfOk result (λ held. IfSome held (λ bytes. (sectors : ℕ) → sizes_of self.now name.now ≡ Some sectors
+            → HasContent (reads_of self.now) name.now sectors bytes)) }
+        ensures none { IfOk result (λ held. IfNone held (sizes_of self.now name.now ≡ None)) }
+    {
+        match find_device(self.devices.as_slice(), name) {
+            Some(index) => Ok(Some(self.devices[index].content(alloc)?)),
+            None => Ok(None),
+        }
+    }
+
+    /// From now on, until a disk of the device is put back, the write with this number fails in each disk of it that
+    /// is lent. The writes of a disk are counted from 0. A name that the bay doesn't hold changes nothing.
+    pub fn fail_write(&mut self, name: &str, number: u64) -> Result<(), Memory>
+        ensures listed { (failing : List ℕ) → failing_of self.old name.now ≡ Some failing
+            → OnOk result (failing_of self.new name.now ≡ Some (failing ++ number ∷ [])) }
+        ensures sizes { (other : List ℕ) → sizes_of self.new other ≡ sizes_of self.old other }
+        ensures reads { (other : List ℕ) (sector : ℕ) → reads_of self.new other sector ≡ reads_of self.old other sector }
+        ensures rest { (bay_loans self.new ≡ bay_loans self.old) × (bay_faults self.new ≡ bay_faults self.old) }
+    {
+        if let Some(index) = find_device(self.devices.as_slice(), name) {
+            self.devices[index].fail_write(number)?;
+        }
+        Ok(())
+    }
+
+    /// Lends a part of the device at an index.
+    fn lend(
+        &mut self,
+        index: usize,
+        name: &str,
+        first: u64,
+        sectors: u64,
+    ) -> Result<MemDisk, Memory>
+        requires { LiesAt self.old name.now index first sectors }
+        ensures place { IfOk result (λ disk. place_of disk ≡ record { device = name.now; first = first }) }
+        ensures size { IfOk result (λ disk. sectors_of disk ≡ sectors) }
+        ensures rows { (found : IsFoundAt self.old.devices.items name.now index) → IfOk result (λ disk.
+            disk.state.rows.items ≡ take sectors (drop first found.device.state.rows.items)) }
+        ensures loans { IfOk result (λ disk. bay_loans self.new ≡ bay_loans self.old ++ new_loan disk ∷ []) }
+        ensures err { OnErr result (bay_loans self.new ≡ bay_loans self.old) }
+        ensures rest { (self.new.devices ≡ self.old.devices) × (bay_faults self.new ≡ bay_faults self.old) }
+    {
+        self.loans.reserve()?;
+        let device = Name::from_text(self.alloc, name)?;
+        let disk = self.devices[index].lend(self.alloc, first, sectors)?;
+        self.loans.begin(device, first, &disk);
+        Ok(disk)
+    }
+
+    /// Lends a part of the device at an index, where no sector of it is lent.
+    fn open_at(
+        &mut self,
+        index: usize,
+        name: &str,
+        first: u64,
+        sectors: u64,
+    ) -> Result<MemDisk, BayError>
+        requires { LiesAt self.old name.now index first sectors }
+        ensures place { IfOk result (λ disk. (place_of disk ≡ record { device = name.now; first = first }) × (sectors_of disk ≡ sectors)) }
+        ensures content { IfOk result (λ disk. ReadsAs (reads_of self.old) name.now first sectors (history_of disk).now) }
+        ensures free { OnOk result (IsFree place_of sectors_of (bay_loans self.old) name.now first sectors) }
+        ensures loans { IfOk result (λ disk. bay_loans self.new ≡ bay_loans self.old ++ new_loan disk ∷ []) }
+        ensures refused { OnErr result (bay_loans self.new ≡ bay_loans self.old) }
+        ensures devices { self.new.devices ≡ self.old.devices }
+        ensures cause { HasBayCause (bay_faults self.old) (bay_faults self.new) result }
+        ensures why { IsErrOf result BayError.Failed
+            → IsFree place_of sectors_of (bay_loans self.old) name.now first sectors → ⊥ }
+    {
+        if self.loans.is_free(name, first, sectors) {
+            match self.lend(index, name, first, sectors) {
+                Ok(disk) => Ok(disk),
+                Err(Memory) => Err(BayError::Memory),
+            }
+        } else {
+            self.faults = self.faults.saturating_add(1);
+            Err(BayError::Failed)
+        }
+    }
+
+    /// Ends the last loan that is out at the disk's place.
+    fn end_loan(&mut self, disk: &MemDisk)
+        requires { (index : ℕ) × IsOut place_of sectors_of (bay_loans self.old) (place_of disk.now) (sectors_of disk.now) index }
+        ensures loans { EndsLoan place_of sectors_of disk.now (bay_loans self.old) (bay_loans self.new) }
+        ensures rest { (self.new.devices ≡ self.old.devices) × (bay_faults self.new ≡ bay_faults self.old) }
+    {
+        self.loans.end(disk.device.as_str(), disk.first, disk);
+    }
+
+    /// Moves the sectors of a disk into its device.
+    fn take_in(&mut self, disk: MemDisk)
+        requires { disk.first + sectors_of disk ≤ device_length (device_of self.old.devices.items disk.device) }
+        ensures content { NowReadsAs (reads_of self.new) disk.device disk.first (sectors_of disk) (history_of disk).now }
+        ensures others { SameReadsBut disk.device disk.first (sectors_of disk) (reads_of self.old) (reads_of self.new) }
+        ensures sizes { (name : List ℕ) → sizes_of self.new name ≡ sizes_of self.old name }
+        ensures rest { (bay_loans self.new ≡ bay_loans self.old) × (bay_faults self.new ≡ bay_faults self.old) }
+    {
+        let MemDisk {
+            device,
+            first,
+            state,
+            ..
+        } = disk;
+        match find_device(self.devices.as_slice(), device.as_str()) {
+            Some(index) => self.devices[index].take_back(first as usize, state),
+            None => {}
+        }
+    }
+}
+
+impl Bay for MemBay {
+    ghost use Rattle.std.specs.Prelude.{◌≡◌, ℕ, ◌+◌, ◌≤◌, [], ◌∷◌, ◌++◌, Some, None, IfOk, OnOk, OnErr, IsErrOf};
+    ghost use Rattle.era_base.specs.Bay.{new_loan, ReadsAs, SameReads, KeepsSizes, IsFree, HasBayCause};
+    ghost use Rattle.era_disks.specs.MemDisk.{place_of, sectors_of, history_of};
+    ghost use Rattle.era_disks.specs.MemBay.{sizes_of, reads_of, bay_loans, bay_faults, IsRefusedAt};
+
+    type D = MemDisk;
+
+    ghost sizes = { sizes_of };
+
+    ghost reads = { reads_of };
+
+    ghost loans = { bay_loans };
+
+    ghost faults = { bay_faults };
+
+    fn size(&mut self, name: &str) -> Result<u64, BayError>
+        ensures told { IfOk result (λ size. sizes_of self.new name.now ≡ Some size) }
+        ensures sizes { KeepsSizes (sizes_of self.old) (sizes_of self.new) }
+        ensures reads { SameReads (reads_of self.old) (reads_of self.new) }
+        ensures loans { bay_loans self.new ≡ bay_loans self.old }
+        ensures cause { HasBayCause (bay_faults self.old) (bay_faults self.new) result }
+        ensures refused { OnErr result (sizes_of self.old name.now ≡ None) }
+        ensures never { IsErrOf result BayError.Memory → ⊥ }
+    {
+        match find_device(self.devices.as_slice(), name) {
+            Some(index) => Ok(self.devices[index].sectors()),
+            None => {
+                self.faults = self.faults.saturating_add(1);
+                Err(BayError::Failed)
+            }
+        }
+    }
+
+    fn open_meta(&mut self, name: &str) -> Result<MemDisk, BayError>
+        ensures lent { IfOk result (λ disk. place_of disk ≡ record { device = name.now; first = 0 }) }
+        ensures whole { IfOk result (λ disk. sizes_of self.new name.now ≡ Some (sectors_of disk)) }
+        ensures content { IfOk result (λ disk. ReadsAs (reads_of self.old) name.now 0 (sectors_of disk) (history_of disk).now) }
+        ensures free { IfOk result (λ disk. IsFree place_of sectors_of (bay_loans self.old) name.now 0 (sectors_of disk)) }
+        ensures loans { IfOk result (λ disk. bay_loans self.new ≡ bay_loans self.old ++ new_loan disk ∷ []) }
+        ensures refused { OnErr result (bay_loans self.new ≡ bay_loans self.old)
+            × (IsErrOf result BayError.Failed
+            → (size : ℕ) → sizes_of self.old name.now ≡ Some size → IsRefusedAt self.old name.now 0 size) }
+        ensures same { KeepsSizes (sizes_of self.old) (sizes_of self.new) × SameReads (reads_of self.old) (reads_of self.new) }
+        ensures cause { HasBayCause (bay_faults self.old) (bay_faults self.new) result }
+    {
+        match find_device(self.devices.as_slice(), name) {
+            Some(index) => {
+                let sectors = self.devices[index].sectors();
+                self.open_at(index, name, 0, sectors)
+            }
+            None => {
+                self.faults = self.faults.saturating_add(1);
+                Err(BayError::Failed)
+            }
+        }
+    }
+
+    fn open_part(&mut self, name: &str, first: u64, sectors: u64) -> Result<MemDisk, BayError>
+        requires { (size : ℕ) → sizes_of self.old name.now ≡ Some size → first + sectors ≤ size }
+        ensures lent { IfOk result (λ disk. (place_of disk ≡ record { device = name.now; first = first }) × (sectors_of disk ≡ sectors)) }
+        ensures content { IfOk result (λ disk. ReadsAs (reads_of self.old) name.now first sectors (history_of disk).now) }
+        ensures free { OnOk result (IsFree place_of sectors_of (bay_loans self.old) name.now first sectors) }
+        ensures loans { IfOk result (λ disk. bay_loans self.new ≡ bay_loans self.old ++ new_loan disk ∷ []) }
+        ensures refused { OnErr result (bay_loans self.new ≡ bay_loans self.old)
+            × (IsErrOf result BayError.Failed
+            → (size : ℕ) → sizes_of self.old name.now ≡ Some size → IsRefusedAt self.old name.now first sectors) }
+        ensures same { KeepsSizes (sizes_of self.old) (sizes_of self.new) × SameReads (reads_of self.old) (reads_of self.new) }
+        ensures cause { HasBayCause (bay_faults self.old) (bay_faults self.new) result }
+    {
+        match find_device(self.devices.as_slice(), name) {
+            Some(index) => self.open_at(index, name, first, sectors),
+            None => {
+                self.faults = self.faults.saturating_add(1);
+                Err(BayError::Failed)
+            }
+        }
+    }
+
+    fn put_back(&mut self, disk: MemDisk) {
+        self.end_loan(&disk);
+        self.take_in(disk);
+    }
+
+    fn faults(&self) -> u64 {
+        self.faults
+    }
+}
