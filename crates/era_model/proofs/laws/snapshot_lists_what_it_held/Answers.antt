@@ -1,0 +1,7 @@
+use Rattle.std.proofs.Common.{refl}
+use Rattle.std.specs.Fmt.{digits}
+use Rattle.era_model.proofs.laws.snapshot_lists_what_it_held.Goals as goal
+
+pub returns-clause-transcript : goal.returns-clause-transcript
+unfolding digits
+returns-clause-transcript c = refl

@@ -1,0 +1,42 @@
+//! The model: the events of a session, the journal that they make, and what a journal means.
+#![tactic(auto)]
+
+mod contents;
+mod entry;
+mod entry_list;
+mod era_runs;
+mod event;
+mod history;
+mod journal;
+mod laws;
+mod marked_set;
+mod marks;
+mod opening;
+mod reply;
+mod set_list;
+#[cfg(test)]
+mod tests;
+
+pub use contents::Contents;
+pub use entry::Entry;
+pub use entry_list::EntryList;
+pub use era_runs::EraRuns;
+pub use event::{Event, Kind, Why};
+pub use history::{Happening, Images};
+pub use journal::Journal;
+pub use laws::{
+    acknowledged_writes_are_legal, checkpoints_over_a_cut_write_are_a_run,
+    cut_write_is_a_data_fault, cut_write_keeps_the_era_until_resolved, digests_are_a_run,
+    digests_are_legal, digests_keep_last_eras, early_drop_is_illegal,
+    failed_mark_is_a_metadata_fault, lists_have_the_blocks_since_their_era,
+    one_mark_serves_two_writes, refusal_without_cause_is_illegal, replies_are_of_own_events,
+    replies_stand_in_order, resolved_write_is_legal, seventeenth_switch_merges_the_oldest_set,
+    snapshot_lists_what_it_held, snapshot_session_is_a_run, snapshot_session_is_legal,
+    switch_over_a_cut_write_is_illegal, two_lanes_are_a_run, write_before_its_mark_is_illegal,
+    write_under_way_keeps_the_era, writes_and_a_read_are_a_run,
+};
+pub use marked_set::MarkedSet;
+pub use marks::Marks;
+pub use opening::Opening;
+pub use reply::{Answer, Device, Reply};
+pub use set_list::SetList;
