@@ -1,0 +1,2 @@
+pub mod TableLine
+pub mod Inside

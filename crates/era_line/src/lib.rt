@@ -1,0 +1,11 @@
+//! Texts of a device: the table line that says how a target is made.
+#![tactic(auto)]
+
+mod laws;
+mod table_line;
+
+pub use laws::one_table_line;
+pub use table_line::{LineFault, TableLine, read_table};
+
+#[cfg(test)]
+mod tests;

@@ -1,0 +1,6 @@
+pub mod Spelling
+pub mod LineSteps
+pub mod RoundSteps
+pub mod ReadSteps
+pub mod SourceSteps
+pub mod ModelSteps

@@ -1,0 +1,4 @@
+pub mod Grammar
+pub mod Rounds
+pub mod Inside
+pub mod ModelRounds

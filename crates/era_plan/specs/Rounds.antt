@@ -1,0 +1,71 @@
+-- The round that a text spells, and the first line that is refused.
+use Rattle.std.specs.Prelude.{◌≡◌, ℕ, ◌-◌, ◌<◌, ◌≤◌, List, ◌++◌, length, take, All, Option, Some, Result, Ok, Err}
+use Rattle.era_base.specs.Faults.{Rose}
+use Rattle.era_plan.specs.Grammar.{lines_of, line_before, SpellEach, IsPayload, payload_of}
+use Rattle.era_plan.specs.declared.round.Write.{Write}
+use Rattle.era_plan.specs.declared.round.LineKind.TheVariants.{NotYet}
+use Rattle.era_plan.specs.declared.round.PlanError.{PlanError}
+use Rattle.era_plan.specs.declared.round.PlanError.TheVariants.{Line, Source, Memory}
+
+-- The limits of a round: at most 4,096 commands, 67,108,864 bytes together, and 1 to 128 whole sectors in each.
+pub record IsWithinLimits (commands : List Write) : Type 0 where
+  pub count : length commands ≤ 4096
+  pub payload : payload_of commands ≤ 67108864
+  pub sizes : All (λ command. IsPayload (length command.bytes)) commands
+
+-- Lines spell a round: one command each, within the limits.
+pub record SpellRound (lines : List (List ℕ)) (commands : List Write) : Type 0 where
+  pub each : SpellEach lines commands
+  pub count : length commands ≤ 4096
+  pub payload : payload_of commands ≤ 67108864
+
+-- The line with this number, counted from 1, is the first refused one: the lines before it spell a round, and with it they don't.
+pub record IsFirstRefused (lines : List (List ℕ)) (number : ℕ) : Type 0 where
+  pub some : 0 < number
+  pub within : number ≤ length lines
+  pub commands : List Write
+  pub before : SpellRound (take (number - 1) lines) commands
+  pub refused : (more : List Write) → SpellRound (take number lines) more → ⊥
+
+-- A text was read: its lines that have ended spell a round of these commands, and these bytes of the next line are there.
+pub record HasRead (text : List ℕ) (commands : List Write) (line : List ℕ) : Type 0 where
+  pub ended : List (List ℕ)
+  pub split : (rest : List ℕ) → lines_of (text ++ rest) ≡ ended ++ line_before line (lines_of rest)
+  pub round : SpellRound ended commands
+
+-- A text is the front of a whole one, and the rest is left.
+pub record LeftBehind (text whole : List ℕ) (now : Option (List ℕ)) : Type 0 where
+  pub rest : List ℕ
+  pub left : now ≡ Some rest
+  pub joined : text ++ rest ≡ whole
+
+-- A text was read up to where the source failed, and no line that has ended was refused.
+pub record IsReadInFront (whole : List ℕ) (now : Option (List ℕ)) : Type 0 where
+  pub text : List ℕ
+  pub behind : LeftBehind text whole now
+  pub commands : List Write
+  pub line : List ℕ
+  pub read : HasRead text commands line
+
+-- What an error says of the text where the source failed: no line that ended in front of the failed read is refused.
+abbrev pub FailsBehind : List ℕ → Option (List ℕ) → PlanError → Type 0
+FailsBehind whole now (Line error) = Unit {0}
+FailsBehind whole now (Source count) = IsReadInFront whole now
+FailsBehind whole now Memory = Unit {0}
+
+-- What an error says of a text that was read: a line that is refused is the first such line of the text.
+abbrev pub Refuses : List ℕ → PlanError → Type 0
+Refuses text (Line error) = (error.kind ≡ NotYet) × IsFirstRefused (lines_of text) error.line
+Refuses text (Source count) = Unit {0}
+Refuses text Memory = Unit {0}
+
+-- What an error says of the source's count of failures: it rose where the source failed, and is as it was otherwise.
+abbrev pub HasErrorCause : ℕ → ℕ → PlanError → Type 0
+HasErrorCause before now (Line error) = now ≡ before
+HasErrorCause before now (Source count) = (count ≡ now) × Rose before now
+HasErrorCause before now Memory = now ≡ before
+
+-- The source's count of failures rose exactly where the answer says so, and the answer tells it.
+abbrev pub HasPlanCause : {T : Type 0} → ℕ → ℕ → Result T PlanError → Type 0
+HasPlanCause before now (Ok value) = now ≡ before
+HasPlanCause before now (Err error) = HasErrorCause before now error

@@ -1,0 +1,200 @@
+-- How a session went, from the run of its writes and the lines that were given.
+use Rattle.std.proofs.Common.{◌≡◌, ℕ, ◌+◌, true, false, List, [], ◌∷◌, ◌++◌, length, get_or, take, Option, Some, None, refl, ap, sym, ◌∙◌, subst, arith, inl, inr, append_assoc}
+use Rattle.std.specs.Prelude.{if◌then◌else◌}
+use Rattle.std.proofs.lemmas.List.{take_all, append-nil}
+use Rattle.std.proofs.lemmas.List.Sums.{sum_by-cons}
+use Rattle.era_base.specs.declared.geometry.Geometry.{Geometry}
+use Rattle.era_base.specs.CrashModel.{IsClean}
+use Rattle.era_base.specs.Faults.{Rose}
+use Rattle.era_base.specs.Streams.{GivesFront}
+use Rattle.era_model.specs.declared.history.Happening.{Happening}
+use Rattle.era_model.specs.declared.history.Happening.TheVariants.{Opened}
+use Rattle.era_model.specs.History.{at_opening, era_of, in_flight, next_place}
+use Rattle.era_model.specs.Journal.{session_opening}
+use Rattle.era_model.specs.Transcript.{Stop, ReadToEnd, SourceFault, open_line, stop_line, end_line, replies_text}
+use Rattle.era_model.specs.Writes.{block_bytes}
+use Rattle.era_plan.specs.declared.round.PlanError.{PlanError}
+use Rattle.era_plan.specs.declared.round.Write.{Write}
+use Rattle.era_plan.specs.Grammar.{lines_of}
+use Rattle.era_plan.specs.declared.round.PlanError.TheVariants.{Line as LineError, Source as SourceError, Memory as MemoryError}
+use Rattle.era_plan.specs.Rounds.{SpellRound, Refuses, HasErrorCause}
+use Rattle.era_top.specs.declared.outcome.Outcome.{Outcome}
+use Rattle.era_top.specs.declared.outcome.Outcome.TheVariants.{OutOfRange, Done as DoneOutcome, Cut as CutOutcome}
+use Rattle.era_top.specs.declared.status.Status.{Status}
+use Rattle.era_top.specs.declared.status.Status.TheVariants.{Done, Fault, Sink}
+use Rattle.era_top.specs.Outcomes.{event_count, outcomes_text, total_events}
+use Rattle.era_top.specs.Runs.{commands_from, AreAnswered, IsJournalOf, some_cut}
+use Rattle.era_top.specs.Sessions.{Session, Around, IsSession, HasReadAll, HasRunNothing, EndsBy, Prints, Goes, GoesOn, session_text, text_behind_open, stop_of, status_of, round_status}
+use Rattle.era_top.specs.Steps.{some_issued, HaveRun}
+use Rattle.era_top.proofs.Gives.{gives_front-within}
+use Rattle.era_top.proofs.Journals.{at_opening-known}
+use Rattle.era_top.proofs.RunOrder.{journal-run, journal-replies, opening-legal}
+
+-- a front of the first part is a front of all
+gives_front-first : (before piece rest : List ℕ) (after : Option (List ℕ)) → GivesFront before piece after → GivesFront before (piece ++ rest) after
+gives_front-first before piece rest after front =
+    gives_front-within before [] piece rest after (subst (λ bytes. GivesFront bytes piece after) (sym (append-nil before)) front)
+
+-- a text that was given behind another one
+pub prints-behind : (given given' given'' : Option (List ℕ)) (first rest : List ℕ) (ended result : Status)
+    → ((before : List ℕ) → given ≡ Some before → given' ≡ Some (before ++ first)) → Prints given' given'' rest ended result → Prints given given'' (first ++ rest) ended result
+prints-behind given given' given'' first rest ended result was printed = elim printed [
+  | inl all ↦ inl (all.0, (λ before is. all.1 (before ++ first) (was before is) ∙ ap (λ bytes. Some bytes) (append_assoc before first rest)))
+  | inr some ↦ inr (
+    some.0,
+    (λ before is.
+        subst (λ bytes. GivesFront before bytes given'') (ap (λ bytes. first ++ bytes) (append-nil rest))
+        (gives_front-within before first rest [] given'' (some.1 (before ++ first) (was before is)))),
+  )
+]
+
+-- a text of which the first part was refused
+pub prints-first : (given given' : Option (List ℕ)) (first rest : List ℕ) (ended : Status)
+    → ((before : List ℕ) → given ≡ Some before → GivesFront before first given') → Prints given given' (first ++ rest) ended Sink
+prints-first given given' first rest ended front = inr (refl, (λ before is. gives_front-first before first rest given' (front before is)))
+
+-- the next place is behind all events
+pub answered-total : (g : Geometry) (h : List Happening) (number start : ℕ) (writes : List Write) (outcomes : List Outcome) (next : ℕ) → AreAnswered g h number start writes outcomes next → next ≡ start + total_events outcomes
+answered-total g h number start [] [] next answered = omega (arith, answered)
+answered-total g h number start [] (outcome ∷ outcomes) next answered = absurd answered
+answered-total g h number start (write ∷ writes) [] next answered = absurd answered
+answered-total g h number start (write ∷ writes) (outcome ∷ outcomes) next answered =
+    let rest = answered-total g h (number + 1) (start + event_count outcome) writes outcomes next answered.2 in
+    let more : total_events (outcome ∷ outcomes) ≡ event_count outcome + total_events outcomes = sum_by-cons event_count outcome outcomes in omega arith
+
+-- without a write that was issued there is no event
+none-issued : (outcomes : List Outcome) → some_issued outcomes ≡ false → total_events outcomes ≡ 0
+none-issued [] none = refl
+none-issued (OutOfRange ∷ outcomes) none = none-issued outcomes none
+none-issued (DoneOutcome marks ∷ outcomes) none = absurd (cc)
+none-issued (CutOutcome marks faults ∷ outcomes) none = absurd (cc)
+
+issued-by-events : (outcomes : List Outcome) → (total_events outcomes ≡ 0 → ⊥) → some_issued outcomes ≡ true
+issued-by-events outcomes events = elim (some_issued outcomes) as (λ issued. some_issued outcomes ≡ issued → issued ≡ true) [
+  | true ↦ λ _. refl
+  | false ↦ λ none. absurd (events (none-issued outcomes none))
+] refl
+
+-- the text of a session is its first line and what stands behind it
+pub session-text-is : (g : Geometry) (contents : List ℕ) (session : Session) → at_opening None (λ opening. Some opening) session.journal ≡ Some (session_opening g contents)
+    → session_text session ≡ open_line g 1 ++ text_behind_open session
+session-text-is g contents session opened =
+    four (at_opening [] (λ opening. open_line opening.geometry opening.era) session.journal) (replies_text session.journal session.commands) (stop_line session.stop) (end_line (era_of session.journal) (next_place session.journal))
+    ∙ ap (λ first. first ++ text_behind_open session) (at_opening-known [] (λ opening. open_line opening.geometry opening.era) (session_opening g contents) session.journal opened)
+  where
+    four : (a b c d : List ℕ) → a ++ b ++ c ++ d ≡ a ++ (b ++ (c ++ d))
+    four a b c d = simp append_assoc
+
+-- a session that went on behind its first line
+pub goes-behind : (g : Geometry) (contents : List ℕ) (around : Around) (given given' given'' : Option (List ℕ)) (result : Status)
+    → ((before : List ℕ) → given ≡ Some before → given' ≡ Some (before ++ open_line g 1)) → GoesOn g contents around given' given'' result → Goes g contents around given given'' result
+goes-behind g contents around given given' given'' result was on = record {
+  session = on.session;
+  ended = on.ended;
+  right = on.right;
+  cause = on.cause;
+  printed = subst (λ text. Prints given given'' text on.ended result) (sym (session-text-is g contents on.session on.right.opened))
+      (prints-behind given given' given'' (open_line g 1) (text_behind_open on.session) on.ended result was on.printed);
+}
+
+-- the journal of a session that ran nothing
+nothing : (g : Geometry) (contents : List ℕ) → IsJournalOf g contents [] [] (Opened (session_opening g contents) ∷ [])
+nothing g contents = record { opened = refl; legal = opening-legal g contents; era = refl; answered = refl; drawn = tt }
+
+-- a session that ran nothing is one of the origin, which reads as before
+idle-session : (g : Geometry) (contents : List ℕ) (around : Around) (stop : Stop) → (around.tells ≡ true → around.disk' ≡ around.disk)
+    → IsSession g contents around (record { journal = Opened (session_opening g contents) ∷ []; commands = []; stop = stop })
+idle-session g contents around stop same = record {
+  opened = refl;
+  legal = opening-legal g contents;
+  run = journal-run g contents [] [] (Opened (session_opening g contents) ∷ []) (nothing g contents);
+  counts = tt;
+  reads = λ told is block within. record {
+    size = ap (λ bytes. length (block_bytes g.block_sectors bytes block)) (ap (λ state. state.seen) (same told) ∙ sym is);
+    same = λ offset _. ap (λ bytes. get_or (block_bytes g.block_sectors bytes block) offset 0) (ap (λ state. state.seen) (same told) ∙ sym is);
+  };
+}
+
+-- the first line was refused, and nothing was read
+pub goes-unopened : (g : Geometry) (contents : List ℕ) (around : Around) (given given' : Option (List ℕ)) → (around.tells ≡ true → around.disk' ≡ around.disk)
+    → ((before : List ℕ) → given ≡ Some before → GivesFront before (open_line g 1) given') → Goes g contents around given given' Sink
+goes-unopened g contents around given given' same front =
+    let session : Session = record { journal = Opened (session_opening g contents) ∷ []; commands = []; stop = ReadToEnd } in
+    record {
+      session = session;
+      ended = Sink;
+      right = idle-session g contents around ReadToEnd same;
+      cause = record { commands = refl; no_event = refl; same = same };
+      printed = subst (λ text. Prints given given' text Sink Sink) (sym (session-text-is g contents session refl))
+          (prints-first given given' (open_line g 1) (text_behind_open session) Sink front);
+    }
+
+-- the stream gave no round, and the last lines say why
+pub goes-stop : (g : Geometry) (contents : List ℕ) (around : Around) (given given' : Option (List ℕ)) (error : PlanError) (result : Status) → (around.tells ≡ true → around.disk' ≡ around.disk)
+    → ((session : Session) → session.stop ≡ stop_of error → HasRunNothing around session → EndsBy around session (status_of error))
+    → Prints given given' (stop_line (stop_of error) ++ end_line 1 0) (status_of error) result → GoesOn g contents around given given' result
+goes-stop g contents around given given' error result same cause printed =
+    let session : Session = record { journal = Opened (session_opening g contents) ∷ []; commands = []; stop = stop_of error } in
+    record {
+      session = session;
+      ended = status_of error;
+      right = idle-session g contents around (stop_of error) same;
+      cause = cause session refl (record { commands = refl; no_event = refl; same = same });
+      printed = printed;
+    }
+
+-- the writes of the stream were run, and the replies say how
+round-cause : (around : Around) (session : Session) (outcomes : List Outcome) → HasReadAll around session
+    → (some_cut outcomes ≡ true → Rose around.disk_faults around.disk_faults')
+    → (some_cut outcomes ≡ false → (in_flight session.journal ≡ []) × (around.tells ≡ true → (next_place session.journal ≡ 0 → ⊥) → IsClean around.disk') × (around.disk_faults' ≡ around.disk_faults))
+    → EndsBy around session (round_status outcomes)
+round-cause around session outcomes read cut done = elim (some_cut outcomes) as (λ flag. some_cut outcomes ≡ flag → EndsBy around session (if flag then Fault else Done)) [
+  | true ↦ λ is. (read, cut is)
+  | false ↦ λ is. (read, (done is).0, (done is).1, (done is).2)
+] refl
+
+pub goes-round : (g : Geometry) (contents : List ℕ) (around : Around) (given given' : Option (List ℕ)) (writes : List Write) (outcomes : List Outcome) (h : List Happening) (result : Status)
+    → HaveRun g contents writes outcomes around.tells around.disk_faults around.disk_faults' around.disk around.disk' h
+    → ((text : List ℕ) → around.left ≡ Some text → SpellRound (lines_of text) writes)
+    → Prints given given' (outcomes_text 1 0 outcomes ++ (stop_line ReadToEnd ++ end_line 1 (total_events outcomes))) (round_status outcomes) result
+    → GoesOn g contents around given given' result
+goes-round g contents around given given' writes outcomes h result run spelled printed =
+    let front = take (length outcomes) writes in
+    let session : Session = record { journal = h; commands = commands_from 0 front; stop = ReadToEnd } in
+    let total : next_place h ≡ total_events outcomes = answered-total g h 0 0 front outcomes (next_place h) run.journal.answered ∙ (omega arith) in
+    record {
+      session = session;
+      ended = round_status outcomes;
+      right = record {
+        opened = run.journal.opened;
+        legal = run.journal.legal;
+        run = journal-run g contents front outcomes h run.journal;
+        counts = run.counts;
+        reads = run.reads;
+      };
+      cause = round-cause around session outcomes
+          (record {
+            writes = writes;
+            answered = length outcomes;
+            spelled = spelled;
+            commands = refl;
+            stop = refl;
+            whole = λ empty. all-answered empty;
+          })
+          run.rose
+          (λ none. (run.quiet none, (λ told some. run.clean told none (issued-by-events outcomes (λ zero. some (total ∙ zero)))), run.kept none));
+      printed = rw (journal-replies g contents front outcomes h run.journal, run.journal.era, total) printed;
+    }
+  where
+    all-answered : in_flight h ≡ [] → take (length outcomes) writes ≡ writes
+    all-answered empty = elim (some_cut outcomes) as (λ flag. some_cut outcomes ≡ flag → take (length outcomes) writes ≡ writes) [
+      | true ↦ λ cut. absurd (run.stopped cut empty)
+      | false ↦ λ none. take_all (length outcomes) writes (let e = run.whole none in omega arith)
+    ] refl
+
+-- why a stream gave no round is why its session ended
+pub error-cause : (around : Around) (error : PlanError) → HasErrorCause around.source_faults around.source_faults' error → ((text : List ℕ) → around.left ≡ Some text → Refuses text error)
+    → (session : Session) → session.stop ≡ stop_of error → HasRunNothing around session → EndsBy around session (status_of error)
+error-cause around (LineError error) cause refused session stop idle = (idle, (error.line, stop, (λ text is. (refused text is).1)))
+error-cause around (SourceError count) cause refused session stop idle = (idle, stop ∙ ap (λ n. SourceFault n) cause.0, cause.1)
+error-cause around MemoryError cause refused session stop idle = (idle, stop)

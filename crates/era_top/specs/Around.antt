@@ -1,0 +1,65 @@
+-- What stands outside of a call, when it began and when it returned.
+use Rattle.std.specs.Prelude.{◌≡◌, ◌⊎◌, ℕ, ◌≤◌, Bool, List, length, slice_get, Option, Some}
+use Rattle.era_base.specs.Bay.{Loan}
+use Rattle.era_base.specs.CrashModel.{History}
+use Rattle.era_base.specs.Disk.{Place}
+use Rattle.era_base.specs.Faults.{Rose, NoneRose}
+
+-- What a bay's disks tell: their place, their size, their states, their counts of faults, and whether they tell their content.
+pub record DiskFacts (D : Type 0) : Type 0 where
+  pub place : D → Place
+  pub sectors : D → ℕ
+  pub history : D → History
+  pub faults : D → ℕ
+  pub tells : Bool
+
+-- A bay around a call: the sizes that are told in the end, what sectors read as, the loans, and the count of faults.
+pub record BayAround (D : Type 0) : Type 0 where
+  pub sizes : List ℕ → Option ℕ
+  pub reads : List ℕ → ℕ → Option (List ℕ)
+  pub reads' : List ℕ → ℕ → Option (List ℕ)
+  pub loans : List (Loan D)
+  pub loans' : List (Loan D)
+  pub faults : ℕ
+  pub faults' : ℕ
+
+-- A source and a sink around a call: the bytes that are left of the one, those that were given to the other, and their counts of faults.
+pub record StreamsAround : Type 0 where
+  pub left : Option (List ℕ)
+  pub left' : Option (List ℕ)
+  pub source_faults : ℕ
+  pub source_faults' : ℕ
+  pub given : Option (List ℕ)
+  pub given' : Option (List ℕ)
+  pub sink_faults : ℕ
+  pub sink_faults' : ℕ
+
+-- A loan began in the call, and this disk was put back for it.
+pub record CameBack {D : Type 0} (bay : BayAround D) (loan : Loan D) (back : D) : Type 0 where
+  pub index : ℕ
+  pub began : length bay.loans ≤ index
+  pub found : slice_get bay.loans' index ≡ Some loan
+  pub ended : loan.back ≡ Some back
+
+-- The count of a disk rose that was lent and put back in the call.
+pub record SomeDiskRose {D : Type 0} (disks : DiskFacts D) (bay : BayAround D) : Type 0 where
+  pub loan : Loan D
+  pub back : D
+  pub came_back : CameBack bay loan back
+  pub rose : Rose (disks.faults loan.lent) (disks.faults back)
+
+-- The bay's count rose, or that of a disk that it lent in the call.
+abbrev pub SomeCountRose : {D : Type 0} → DiskFacts D → BayAround D → Type 0
+SomeCountRose disks bay = Rose bay.faults bay.faults' ⊎ SomeDiskRose disks bay
+
+-- Each disk that was lent in the call was put back.
+abbrev pub AllReturned : {D : Type 0} → BayAround D → Type 0
+AllReturned {D} bay =
+    (index : ℕ) (loan : Loan D) → length bay.loans ≤ index → slice_get bay.loans' index ≡ Some loan → (back : D) × (loan.back ≡ Some back)
+
+-- No count of the source, the sink, the bay or a disk that it lent in the call rose.
+pub record IsFaultless {D : Type 0} (disks : DiskFacts D) (bay : BayAround D) (streams : StreamsAround) : Type 0 where
+  pub quiet_source : NoneRose streams.source_faults streams.source_faults'
+  pub quiet_sink : NoneRose streams.sink_faults streams.sink_faults'
+  pub quiet_bay : NoneRose bay.faults bay.faults'
+  pub quiet_disks : (loan : Loan D) (back : D) → CameBack bay loan back → NoneRose (disks.faults loan.lent) (disks.faults back)

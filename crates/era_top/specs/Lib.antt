@@ -1,0 +1,11 @@
+pub mod Parts
+pub mod Outcomes
+pub mod Runs
+pub mod Steps
+pub mod Sessions
+pub mod Around
+pub mod Words
+pub mod Refusals
+pub mod Reports
+pub mod Openings
+pub mod Top

@@ -1,0 +1,64 @@
+-- What opening the origin of a table line does, and serving a session over it.
+use Rattle.std.specs.Prelude.{◌≡◌, ℕ, ◌<◌, List, [], ◌∷◌, ◌++◌, true, Some, Result, MatchResult}
+use Rattle.era_base.specs.declared.geometry.Geometry.{Geometry}
+use Rattle.era_base.specs.declared.bay_error.BayError.{BayError}
+use Rattle.era_base.specs.declared.bay_error.BayError.TheVariants.{Failed, Memory}
+use Rattle.era_base.specs.Bay.{Loan, new_loan, ended_loan, NowReadsAs, ReadsAs, SameReads, SameReadsBut}
+use Rattle.era_base.specs.CrashModel.{IsWhole}
+use Rattle.era_base.specs.Faults.{Rose}
+use Rattle.era_line.specs.declared.table_line.TableLine.{TableLine}
+use Rattle.era_top.specs.declared.refusal.Refusal.{Refusal}
+use Rattle.era_top.specs.declared.refusal.Refusal.TheVariants.{NoRoom, BayFault, TooSmall}
+use Rattle.era_top.specs.declared.status.Status.{Status}
+use Rattle.era_top.specs.Around.{DiskFacts, BayAround, StreamsAround}
+use Rattle.era_top.specs.Reports.{AsksFor, IsCauseOf, IsOrigin, LeavesBay, around_session}
+use Rattle.era_top.specs.Sessions.{Goes, HasRiseFor}
+
+-- The origin of a table line was lent as it reads, and its loan is the last one.
+pub record IsLent {D : Type 0} (disks : DiskFacts D) (bay : BayAround D) (line : TableLine) (lent : D) : Type 0 where
+  pub origin : IsOrigin disks bay line lent
+  pub content : disks.tells ≡ true → ReadsAs bay.reads line.origin 0 line.length (disks.history lent).now
+  pub loans : bay.loans' ≡ bay.loans ++ new_loan lent ∷ []
+  pub reads : SameReads bay.reads bay.reads'
+  pub faults : bay.faults' ≡ bay.faults
+
+-- The cause for which the origin of a table line wasn't lent.
+abbrev pub IsOriginCause : {D : Type 0} → BayAround D → TableLine → Refusal → Type 0
+IsOriginCause bay line NoRoom = bay.faults' ≡ bay.faults
+IsOriginCause bay line (BayFault count) = (count ≡ bay.faults') × Rose bay.faults bay.faults'
+IsOriginCause bay line (TooSmall have need) =
+    (bay.sizes line.origin ≡ Some have) × (need ≡ line.length) × (have < need) × (bay.faults' ≡ bay.faults)
+IsOriginCause bay line refusal = ⊥
+
+-- The refusal for which a bay with this count of faults didn't answer.
+abbrev pub bay_refusal : ℕ → BayError → Refusal
+bay_refusal count Failed = BayFault count
+bay_refusal count Memory = NoRoom
+
+-- The origin of a table line was lent, or wasn't for this cause.
+abbrev pub OpensOrigin : {D : Type 0} → DiskFacts D → BayAround D → TableLine → Result D Refusal → Type 0
+OpensOrigin disks bay line result = MatchResult result (IsLent disks bay line) (λ refusal. IsOriginCause bay line refusal × LeavesBay bay)
+
+-- The origin that the words name was lent, with the geometry that they give it.
+pub record IsOpened {D : Type 0} (words : List (List ℕ)) (disks : DiskFacts D) (bay : BayAround D) (geometry : Geometry) (lent : D) : Type 0 where
+  pub line : TableLine
+  pub asked : AsksFor words line geometry
+  pub taken : IsLent disks bay line lent
+
+-- The origin that the words name was lent, or wasn't for this cause.
+abbrev pub Opens : {D : Type 0} → List (List ℕ) → DiskFacts D → BayAround D → Result (Geometry × D) Refusal → Type 0
+Opens words disks bay result =
+    MatchResult result (λ opened. IsOpened words disks bay opened.0 opened.1) (λ refusal. IsCauseOf words bay refusal × LeavesBay bay)
+
+-- A session was served over a disk, and the disk was put back behind the loans that began before it.
+pub record HasServed {D : Type 0} (geometry : Geometry) (contents : List ℕ) (disks : DiskFacts D) (bay : BayAround D)
+    (streams : StreamsAround) (before : List (Loan D)) (lent : D) (result : Status) : Type 0 where
+  pub back : D
+  pub loans : bay.loans' ≡ before ++ ended_loan (new_loan lent) back ∷ []
+  pub goes : Goes geometry contents (around_session disks streams lent back) streams.given streams.given' result
+  pub rose : HasRiseFor result streams.source_faults streams.source_faults' streams.sink_faults streams.sink_faults' (disks.faults lent) (disks.faults back)
+  pub content : disks.tells ≡ true → NowReadsAs bay.reads' (disks.place lent).device (disks.place lent).first (disks.sectors lent) (disks.history back).now
+  pub was_whole : disks.tells ≡ true → IsWhole (disks.sectors lent) (disks.history lent).now
+  pub whole : disks.tells ≡ true → IsWhole (disks.sectors lent) (disks.history back).now
+  pub others : SameReadsBut (disks.place lent).device (disks.place lent).first (disks.sectors lent) bay.reads bay.reads'
+  pub faults : bay.faults' ≡ bay.faults

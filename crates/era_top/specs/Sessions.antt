@@ -1,0 +1,134 @@
+-- Sessions: what one tells, how it may end, and what a sink has of its text.
+use Rattle.std.specs.Prelude.{◌≡◌, ◌⊎◌, ℕ, Bool, true, List, [], ◌∷◌, ◌++◌, take, codes, Option, Some, None, if◌then◌else◌}
+use Rattle.era_base.specs.declared.geometry.Geometry.{Geometry}
+use Rattle.era_base.specs.CrashModel.{State, IsClean}
+use Rattle.era_base.specs.Faults.{Rose}
+use Rattle.era_base.specs.Streams.{GivesFront}
+use Rattle.era_model.specs.declared.history.Happening.{Happening}
+use Rattle.era_model.specs.Commands.{Command}
+use Rattle.era_model.specs.Counts.{CountsAreWithin}
+use Rattle.era_model.specs.History.{at_opening, era_of, in_flight, next_place}
+use Rattle.era_model.specs.Journal.{session_opening}
+use Rattle.era_model.specs.Legal.{IsLegal}
+use Rattle.era_model.specs.SessionRun.{IsRun}
+use Rattle.era_model.specs.Transcript.{Stop, ReadToEnd, RefusedLine, SourceFault, NoMemory, replies_text, stop_line, end_line, session_transcript}
+use Rattle.era_plan.specs.declared.round.Write.{Write}
+use Rattle.era_plan.specs.declared.round.PlanError.{PlanError}
+use Rattle.era_plan.specs.declared.round.PlanError.TheVariants.{Line as LineError, Source as SourceError, Memory as MemoryError}
+use Rattle.era_plan.specs.Grammar.{lines_of}
+use Rattle.era_plan.specs.Rounds.{SpellRound, IsFirstRefused}
+use Rattle.era_top.specs.declared.status.Status.{Status}
+use Rattle.era_top.specs.declared.status.Status.TheVariants.{Done, Line, Fault, Memory, Source, Sink}
+use Rattle.era_top.specs.declared.outcome.Outcome.{Outcome}
+use Rattle.era_top.specs.Runs.{commands_from, some_cut, ReadsAsJournal}
+
+-- What a session tells: its journal, the commands that it answered, and why it stopped reading.
+pub record Session : Type 0 where
+  pub journal : List Happening
+  pub commands : List Command
+  pub stop : Stop
+
+-- The text of a session.
+abbrev pub session_text : Session → List ℕ
+session_text session = session_transcript session.journal session.commands session.stop
+
+-- What the outside had when a session began and when it ended: the bytes that were left of the source, the counts of faults of the source and the disk, and what the disk tells.
+pub record Around : Type 0 where
+  pub left : Option (List ℕ)
+  pub source_faults : ℕ
+  pub source_faults' : ℕ
+  pub disk_faults : ℕ
+  pub disk_faults' : ℕ
+  pub tells : Bool
+  pub disk : State
+  pub disk' : State
+
+-- The journal of a session is legal, it opened as a first session of an origin with these contents, its events are those of the commands that were answered, each fault that it tells is one of the disk in this session, and the origin reads as it says.
+pub record IsSession (g : Geometry) (contents : List ℕ) (around : Around) (session : Session) : Type 0 where
+  pub opened : at_opening None (λ opening. Some opening) session.journal ≡ Some (session_opening g contents)
+  pub legal : IsLegal session.journal
+  pub run : IsRun session.journal (session.commands ∷ [])
+  pub counts : CountsAreWithin (λ _. around.disk_faults) (λ _. around.disk_faults') session.journal
+  pub reads : around.tells ≡ true → contents ≡ around.disk.seen → ReadsAsJournal g session.journal around.disk'.seen
+
+-- The stream was read to its end: its lines spell writes, and those that were answered are the first of them.
+pub record HasReadAll (around : Around) (session : Session) : Type 0 where
+  pub writes : List Write
+  pub answered : ℕ
+  pub spelled : (text : List ℕ) → around.left ≡ Some text → SpellRound (lines_of text) writes
+  pub commands : session.commands ≡ commands_from 0 (take answered writes)
+  pub stop : session.stop ≡ ReadToEnd
+  pub whole : in_flight session.journal ≡ [] → take answered writes ≡ writes
+
+-- No command was run, and the disk is as it was.
+pub record HasRunNothing (around : Around) (session : Session) : Type 0 where
+  pub commands : session.commands ≡ []
+  pub no_event : next_place session.journal ≡ 0
+  pub same : around.tells ≡ true → around.disk' ≡ around.disk
+
+-- A session may end so, with this cause: every command answered and on the disk; the origin failed; a line was refused; the source failed; memory was refused; the sink failed before anything was read.
+abbrev pub EndsBy : Around → Session → Status → Type 0
+EndsBy around session Done =
+    HasReadAll around session × (in_flight session.journal ≡ [])
+    × (around.tells ≡ true → (next_place session.journal ≡ 0 → ⊥) → IsClean around.disk')
+    × (around.disk_faults' ≡ around.disk_faults)
+EndsBy around session Fault = HasReadAll around session × Rose around.disk_faults around.disk_faults'
+EndsBy around session Line =
+    HasRunNothing around session
+    × ((line : ℕ) × (session.stop ≡ RefusedLine line (codes "NotYet"))
+    × ((text : List ℕ) → around.left ≡ Some text → IsFirstRefused (lines_of text) line))
+EndsBy around session Source =
+    HasRunNothing around session × (session.stop ≡ SourceFault around.source_faults') × Rose around.source_faults around.source_faults'
+EndsBy around session Memory = HasRunNothing around session × (session.stop ≡ NoMemory)
+EndsBy around session Sink = HasRunNothing around session
+EndsBy around session status = ⊥
+
+-- A text was given, and the run ends as it says; or the sink failed after a front of it.
+abbrev pub Prints : Option (List ℕ) → Option (List ℕ) → List ℕ → Status → Status → Type 0
+Prints given given' text ended result =
+    ((result ≡ ended) × ((before : List ℕ) → given ≡ Some before → given' ≡ Some (before ++ text)))
+    ⊎ ((result ≡ Sink) × ((before : List ℕ) → given ≡ Some before → GivesFront before text given'))
+
+-- A session went so: it is one of the origin with these contents, it ended by its cause, and its text was given.
+pub record Goes (g : Geometry) (contents : List ℕ) (around : Around) (given given' : Option (List ℕ)) (result : Status) : Type 0 where
+  pub session : Session
+  pub ended : Status
+  pub right : IsSession g contents around session
+  pub cause : EndsBy around session ended
+  pub printed : Prints given given' (session_text session) ended result
+
+-- The counts that rose where a run ended so.
+abbrev pub HasRiseFor : Status → ℕ → ℕ → ℕ → ℕ → ℕ → ℕ → Type 0
+HasRiseFor Fault source source' sink sink' disk disk' = Rose disk disk'
+HasRiseFor Source source source' sink sink' disk disk' = Rose source source'
+HasRiseFor Sink source source' sink sink' disk disk' = Rose sink sink'
+HasRiseFor status source source' sink sink' disk disk' = Unit {0}
+
+-- The text of a session behind its first line.
+abbrev pub text_behind_open : Session → List ℕ
+text_behind_open session =
+    replies_text session.journal session.commands ++ (stop_line session.stop ++ end_line (era_of session.journal) (next_place session.journal))
+
+-- A session whose first line was given went so: as above, but for the text, which is that behind the first line.
+pub record GoesOn (g : Geometry) (contents : List ℕ) (around : Around) (given given' : Option (List ℕ)) (result : Status) : Type 0 where
+  pub session : Session
+  pub ended : Status
+  pub right : IsSession g contents around session
+  pub cause : EndsBy around session ended
+  pub printed : Prints given given' (text_behind_open session) ended result
+
+-- How a session stops where its stream gives no round.
+abbrev pub stop_of : PlanError → Stop
+stop_of (LineError error) = RefusedLine error.line (codes "NotYet")
+stop_of (SourceError count) = SourceFault count
+stop_of MemoryError = NoMemory
+
+-- The status of a session whose writes were run: the origin failed where one of them was cut.
+abbrev pub round_status : List Outcome → Status
+round_status outcomes = if some_cut outcomes then Fault else Done
+
+-- The status of a session whose stream gives no round.
+abbrev pub status_of : PlanError → Status
+status_of (LineError error) = Line
+status_of (SourceError count) = Source
+status_of MemoryError = Memory

@@ -1,0 +1,47 @@
+-- The number that the program ends with.
+use Rattle.std.specs.Prelude.{◌≡◌, ◌⊎◌, ℕ, ◌<◌, ◌≤◌, List, Option, Some}
+use Rattle.era_base.specs.Geometry.{IsBlockSize, blocks_of}
+use Rattle.era_line.specs.declared.table_line.TableLine.{TableLine}
+use Rattle.era_plan.specs.declared.round.Write.{Write}
+use Rattle.era_plan.specs.Grammar.{lines_of}
+use Rattle.era_plan.specs.Rounds.{SpellRound}
+use Rattle.era_top.specs.declared.status.Status.{Status}
+use Rattle.era_top.specs.declared.status.Status.TheVariants.{Done, Usage, Line, Fault, Memory, Refused, Source, Sink}
+use Rattle.era_top.specs.Around.{DiskFacts, BayAround, StreamsAround}
+use Rattle.era_top.specs.Reports.{Reports}
+use Rattle.era_top.specs.Words.{IsServe}
+
+-- The number of a status.
+abbrev pub number_of : Status → ℕ
+number_of Done = 0
+number_of Usage = 2
+number_of Line = 3
+number_of Fault = 4
+number_of Memory = 5
+number_of Refused = 6
+number_of Source = 7
+number_of Sink = 8
+
+-- A number is one that the program ends with: 0, or 2 to 8.
+abbrev pub IsNumber : ℕ → Type 0
+IsNumber number = (number ≡ 0) ⊎ ((2 ≤ number) × (number ≤ 8))
+
+-- A call went so, where the origin had these contents, and the program ends with the number of the status.
+pub record EndsAs {D : Type 0} (words : List (List ℕ)) (contents : List ℕ) (disks : DiskFacts D) (bay : BayAround D)
+    (streams : StreamsAround) (number : ℕ) : Type 0 where
+  pub status : Status
+  pub reports : Reports words contents disks bay streams status
+  pub told : number_of status ≡ number
+
+-- Nothing that a call is given is refused: the words are a serve command of a geometry, the origin isn't told to be smaller than it, and the stream's lines spell a round.
+pub record IsServable (words : List (List ℕ)) (sizes : List ℕ → Option ℕ) (left : Option (List ℕ)) : Type 0 where
+  pub line : TableLine
+  pub serve : IsServe words line
+  pub block_size : IsBlockSize line.block_sectors
+  pub some : 0 < line.length
+  pub limited : blocks_of line.length line.block_sectors ≤ 65536
+  pub large_enough : (have : ℕ) → sizes line.origin ≡ Some have → line.length ≤ have
+  pub text : List ℕ
+  pub stream : left ≡ Some text
+  pub writes : List Write
+  pub spelled : SpellRound (lines_of text) writes

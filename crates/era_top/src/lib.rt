@@ -1,0 +1,22 @@
+//! The top call: one run of the program, from its words to the bytes on the devices.
+#![tactic(auto)]
+
+mod events;
+mod number;
+mod origin;
+mod outcome;
+mod part;
+mod parts;
+mod put;
+mod refusal;
+mod refuse;
+mod replies;
+mod round;
+mod run;
+mod session;
+mod session_lines;
+mod status;
+mod top;
+mod words;
+
+pub use top::era_top;

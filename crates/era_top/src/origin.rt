@@ -1,0 +1,52 @@
+//! Takes an origin from its bay.
+
+ghost use Rattle.std.specs.Prelude.{◌≡◌};
+ghost use Rattle.era_top.specs.Openings.{bay_refusal, OpensOrigin};
+
+use crate::refusal::Refusal;
+use era_base::{Bay, BayError};
+use era_line::TableLine;
+
+/// Why a bay didn't answer.
+fn refusal_of<B: Bay>(bay: &B, error: BayError) -> Refusal
+    ensures { result ≡ bay_refusal (B.faults bay.now) error }
+{
+    match error {
+        BayError::Failed => Refusal::BayFault {
+            count: bay.faults(),
+        },
+        BayError::Memory => Refusal::NoRoom,
+    }
+}
+
+/// Takes the origin of a table line, from its first sector on and as long as the line says.
+pub fn open_origin<B: Bay>(bay: &mut B, line: &TableLine) -> Result<B::D, Refusal>
+    ensures { OpensOrigin
+        (record { place = B.D.place; sectors = B.D.sectors; history = B.D.history; faults = B.D.faults; tells = B.D.tells })
+        (record {
+          sizes = B.sizes bay.new;
+          reads = B.reads bay.old;
+          reads' = B.reads bay.new;
+          loans = B.loans bay.old;
+          loans' = B.loans bay.new;
+          faults = B.faults bay.old;
+          faults' = B.faults bay.new;
+        })
+        line.now result }
+{
+    let name = line.origin.as_str();
+    let have = match bay.size(name) {
+        Ok(have) => have,
+        Err(error) => return Err(refusal_of(bay, error)),
+    };
+    if have < line.length {
+        return Err(Refusal::TooSmall {
+            have,
+            need: line.length,
+        });
+    }
+    match bay.open_part(name, 0, line.length) {
+        Ok(disk) => Ok(disk),
+        Err(error) => Err(refusal_of(bay, error)),
+    }
+}

@@ -1,0 +1,127 @@
+//! Gives the replies of a session.
+
+ghost use Rattle.std.specs.Prelude.{◌≡◌, ◌+◌, ◌*◌, ◌<◌, ◌≤◌, ◌^◌, length};
+ghost use Rattle.era_base.specs.Faults.{HasCause};
+ghost use Rattle.era_base.specs.Streams.{GivesTo};
+ghost use Rattle.era_top.specs.Outcomes.{event_count, outcome_line, outcomes_text};
+
+use crate::events::count_events;
+use crate::outcome::Outcome;
+use crate::part::Part::{Number, Text};
+use crate::parts::give_parts;
+use era_base::{Failed, Sink};
+
+/// Gives the reply of a write that went through, with its events from a place on.
+fn give_done<K: Sink>(sink: &mut K, line: u64, place: u64, marks: bool) -> Result<(), Failed>
+    requires { place + 4 < 2 ^ 64 }
+    ensures given { GivesTo (K.given sink.old) (K.given sink.new) (outcome_line line place (Outcome.Done marks)) result }
+    ensures cause { HasCause (K.faults sink.old) (K.faults sink.new) result }
+{
+    if marks {
+        give_parts(
+            sink,
+            &[
+                Number(line),
+                Text(b" ok t"),
+                Number(place),
+                Text(b" m"),
+                Number(place + 1),
+                Text(b" g"),
+                Number(place + 2),
+                Text(b" d"),
+                Number(place + 3),
+                Text(b"\n"),
+            ],
+        )
+    } else {
+        give_parts(
+            sink,
+            &[
+                Number(line),
+                Text(b" ok g"),
+                Number(place),
+                Text(b" d"),
+                Number(place + 1),
+                Text(b"\n"),
+            ],
+        )
+    }
+}
+
+/// Gives the reply of a write that was cut, with its events from a place on.
+fn give_cut<K: Sink>(
+    sink: &mut K,
+    line: u64,
+    place: u64,
+    marks: bool,
+    faults: u64,
+) -> Result<(), Failed>
+    requires { place + 4 < 2 ^ 64 }
+    ensures given { GivesTo (K.given sink.old) (K.given sink.new) (outcome_line line place (Outcome.Cut marks faults)) result }
+    ensures cause { HasCause (K.faults sink.old) (K.faults sink.new) result }
+{
+    if marks {
+        give_parts(
+            sink,
+            &[
+                Number(line),
+                Text(b" fault data "),
+                Number(faults),
+                Text(b" t"),
+                Number(place),
+                Text(b" m"),
+                Number(place + 1),
+                Text(b" g"),
+                Number(place + 2),
+                Text(b" c"),
+                Number(place + 3),
+                Text(b"\n"),
+            ],
+        )
+    } else {
+        give_parts(
+            sink,
+            &[
+                Number(line),
+                Text(b" fault data "),
+                Number(faults),
+                Text(b" g"),
+                Number(place),
+                Text(b" c"),
+                Number(place + 1),
+                Text(b"\n"),
+            ],
+        )
+    }
+}
+
+/// Gives the reply of one write.
+fn give_reply<K: Sink>(sink: &mut K, line: u64, place: u64, outcome: Outcome) -> Result<(), Failed>
+    requires { place + 4 < 2 ^ 64 }
+    ensures given { GivesTo (K.given sink.old) (K.given sink.new) (outcome_line line place outcome) result }
+    ensures cause { HasCause (K.faults sink.old) (K.faults sink.new) result }
+{
+    match outcome {
+        Outcome::OutOfRange => give_parts(sink, &[Number(line), Text(b" range\n")]),
+        Outcome::Done { marks } => give_done(sink, line, place, marks),
+        Outcome::Cut { marks, faults } => give_cut(sink, line, place, marks, faults),
+    }
+}
+
+/// Gives the replies of all writes in order, the first of them for line 1 and with its events from place 0 on.
+pub fn give_replies<K: Sink>(sink: &mut K, outcomes: &[Outcome]) -> Result<(), Failed>
+    requires { length outcomes.now ≤ 4096 }
+    ensures given { GivesTo (K.given sink.old) (K.given sink.new) (outcomes_text 1 0 outcomes.now) result }
+    ensures cause { HasCause (K.faults sink.old) (K.faults sink.new) result }
+{
+    let mut line = 1;
+    let mut place = 0;
+    for outcome in outcomes {
+        let Ok(()) = give_reply(sink, line, place, *outcome) else {
+            return Err(Failed);
+        };
+        line += 1;
+        place += count_events(*outcome);
+    }
+    Ok(())
+}

@@ -1,0 +1,243 @@
+//! The top call: the words are read, the origin is opened, a session is served over it, and the origin is put back.
+
+ghost use Rattle.std.specs.Prelude.{◌≡◌, ◌⊎◌, ℕ, List, [], ◌∷◌, ◌++◌};
+ghost use Rattle.era_base.specs.Bay.{Loan, new_loan, KeepsSizes};
+ghost use Rattle.era_base.specs.Faults.{Rose};
+ghost use Rattle.era_top.specs.Around.{SomeCountRose, AllReturned, IsFaultless};
+ghost use Rattle.era_top.specs.Openings.{Opens, HasServed};
+ghost use Rattle.era_top.specs.Reports.{Reports};
+ghost use Rattle.era_top.specs.Top.{EndsAs, IsNumber, IsServable};
+ghost use Rattle.era_top.specs.Words.{texts_of};
+
+use crate::number::number;
+use crate::origin::open_origin;
+use crate::refusal::Refusal;
+use crate::refuse::refuse;
+use crate::session::serve;
+use crate::status::Status;
+use crate::words::{WordsError, read_words};
+use era_base::{Bay, Geometry, Pace, Sink, Source};
+use std::alloc::Global;
+use std::sync::Wait;
+use std::thread::Threads;
+
+/// Opens the origin that the words name.
+fn open<B: Bay>(alloc: Global, words: &[String], bay: &mut B) -> Result<(Geometry, B::D), Refusal>
+    ensures { Opens (texts_of words.now)
+        (record { place = B.D.place; sectors = B.D.sectors; history = B.D.history; faults = B.D.faults; tells = B.D.tells })
+        (record {
+          sizes = B.sizes bay.new;
+          reads = B.reads bay.old;
+          reads' = B.reads bay.new;
+          loans = B.loans bay.old;
+          loans' = B.loans bay.new;
+          faults = B.faults bay.old;
+          faults' = B.faults bay.new;
+        })
+        result }
+{
+    let line = match read_words(alloc, words) {
+        Ok(line) => line,
+        Err(WordsError::Usage) => return Err(Refusal::NoCommand),
+        Err(WordsError::Memory) => return Err(Refusal::NoRoom),
+    };
+    let geometry = match Geometry::new(line.length, line.block_sectors) {
+        Ok(geometry) => geometry,
+        Err(error) => {
+            return Err(Refusal::NoGeometry {
+                error,
+                size: line.block_sectors,
+            });
+        }
+    };
+    match open_origin(bay, &line) {
+        Ok(disk) => Ok((geometry, disk)),
+        Err(refusal) => Err(refusal),
+    }
+}
+
+/// Serves a session over a disk that was lent last, and puts the disk back.
+fn serve_lent<S: Source, K: Sink, B: Bay>(
+    alloc: Global,
+    geometry: &Geometry,
+    mut disk: B::D,
+    source: &mut S,
+    sink: &mut K,
+    bay: &mut B,
+) -> Status
+    requires size { B.D.sectors disk ≡ geometry.now.sectors }
+    requires lent { (before : List (Loan B.D)) × (B.loans bay.old ≡ before ++ new_loan disk ∷ []) }
+    ensures served { (contents : List ℕ) (before : List (Loan B.D)) → B.loans bay.old ≡ before ++ new_loan disk ∷ []
+        → HasServed geometry.now contents
+        (record { place = B.D.place; sectors = B.D.sectors; history = B.D.history; faults = B.D.faults; tells = B.D.tells })
+        (record {
+          sizes = B.sizes bay.new;
+          reads = B.reads bay.old;
+          reads' = B.reads bay.new;
+          loans = B.loans bay.old;
+          loans' = B.loans bay.new;
+          faults = B.faults bay.old;
+          faults' = B.faults bay.new;
+        })
+        (record {
+          left = S.left source.old;
+          left' = S.left source.new;
+          source_faults = S.faults source.old;
+          source_faults' = S.faults source.new;
+          given = K.given sink.old;
+          given' = K.given sink.new;
+          sink_faults = K.faults sink.old;
+          sink_faults' = K.faults sink.new;
+        })
+        before disk result }
+    ensures sizes { KeepsSizes (B.sizes bay.old) (B.sizes bay.new) }
+{
+    let status = serve(alloc, geometry, source, sink, &mut disk);
+    bay.put_back(disk);
+    status
+}
+
+/// Does what the words say, and tells how it ended.
+pub fn run_words<S: Source, K: Sink, B: Bay>(
+    alloc: Global,
+    words: &[String],
+    source: &mut S,
+    sink: &mut K,
+    bay: &mut B,
+) -> Status
+    ensures single_lane_session { (contents : List ℕ) → Reports (texts_of words.now) contents
+        (record { place = B.D.place; sectors = B.D.sectors; history = B.D.history; faults = B.D.faults; tells = B.D.tells })
+        (record {
+          sizes = B.sizes bay.new;
+          reads = B.reads bay.old;
+          reads' = B.reads bay.new;
+          loans = B.loans bay.old;
+          loans' = B.loans bay.new;
+          faults = B.faults bay.old;
+          faults' = B.faults bay.new;
+        })
+        (record {
+          left = S.left source.old;
+          left' = S.left source.new;
+          source_faults = S.faults source.old;
+          source_faults' = S.faults source.new;
+          given = K.given sink.old;
+          given' = K.given sink.new;
+          sink_faults = K.faults sink.old;
+          sink_faults' = K.faults sink.new;
+        })
+        result }
+    ensures fault { result ≡ Status.Fault → SomeCountRose
+        (record { place = B.D.place; sectors = B.D.sectors; history = B.D.history; faults = B.D.faults; tells = B.D.tells })
+        (record {
+          sizes = B.sizes bay.new;
+          reads = B.reads bay.old;
+          reads' = B.reads bay.new;
+          loans = B.loans bay.old;
+          loans' = B.loans bay.new;
+          faults = B.faults bay.old;
+          faults' = B.faults bay.new;
+        }) }
+    ensures source { result ≡ Status.Source → Rose (S.faults source.old) (S.faults source.new) }
+    ensures sink { result ≡ Status.Sink → Rose (K.faults sink.old) (K.faults sink.new) }
+    ensures returned { AllReturned
+        (record {
+          sizes = B.sizes bay.new;
+          reads = B.reads bay.old;
+          reads' = B.reads bay.new;
+          loans = B.loans bay.old;
+          loans' = B.loans bay.new;
+          faults = B.faults bay.old;
+          faults' = B.faults bay.new;
+        }) }
+{
+    match open(alloc, words, bay) {
+        Ok((geometry, disk)) => serve_lent(alloc, &geometry, disk, source, sink, bay),
+        Err(refusal) => refuse(sink, refusal),
+    }
+}
+
+/// Does what the words say, and answers the number that the program ends with.
+pub fn era_top<R: Threads + Wait + Sync, S: Source, K: Sink, B: Bay, P: Pace + Sync>(
+    rt: &R,
+    alloc: Global,
+    words: &[String],
+    source: &mut S,
+    sink: &mut K,
+    bay: &mut B,
+    pace: &P,
+) -> u8
+    ensures single_lane_session { (contents : List ℕ) → EndsAs (texts_of words.now) contents
+        (record { place = B.D.place; sectors = B.D.sectors; history = B.D.history; faults = B.D.faults; tells = B.D.tells })
+        (record {
+          sizes = B.sizes bay.new;
+          reads = B.reads bay.old;
+          reads' = B.reads bay.new;
+          loans = B.loans bay.old;
+          loans' = B.loans bay.new;
+          faults = B.faults bay.old;
+          faults' = B.faults bay.new;
+        })
+        (record {
+          left = S.left source.old;
+          left' = S.left source.new;
+          source_faults = S.faults source.old;
+          source_faults' = S.faults source.new;
+          given = K.given sink.old;
+          given' = K.given sink.new;
+          sink_faults = K.faults sink.old;
+          sink_faults' = K.faults sink.new;
+        })
+        result }
+    ensures number { IsNumber result }
+    ensures fault { result ≡ 4 → SomeCountRose
+        (record { place = B.D.place; sectors = B.D.sectors; history = B.D.history; faults = B.D.faults; tells = B.D.tells })
+        (record {
+          sizes = B.sizes bay.new;
+          reads = B.reads bay.old;
+          reads' = B.reads bay.new;
+          loans = B.loans bay.old;
+          loans' = B.loans bay.new;
+          faults = B.faults bay.old;
+          faults' = B.faults bay.new;
+        }) }
+    ensures source { result ≡ 7 → Rose (S.faults source.old) (S.faults source.new) }
+    ensures sink { result ≡ 8 → Rose (K.faults sink.old) (K.faults sink.new) }
+    ensures returned { AllReturned
+        (record {
+          sizes = B.sizes bay.new;
+          reads = B.reads bay.old;
+          reads' = B.reads bay.new;
+          loans = B.loans bay.old;
+          loans' = B.loans bay.new;
+          faults = B.faults bay.old;
+          faults' = B.faults bay.new;
+        }) }
+    ensures faultless { IsServable (texts_of words.now) (B.sizes bay.new) (S.left source.old)
+        → IsFaultless
+        (record { place = B.D.place; sectors = B.D.sectors; history = B.D.history; faults = B.D.faults; tells = B.D.tells })
+        (record {
+          sizes = B.sizes bay.new;
+          reads = B.reads bay.old;
+          reads' = B.reads bay.new;
+          loans = B.loans bay.old;
+          loans' = B.loans bay.new;
+          faults = B.faults bay.old;
+          faults' = B.faults bay.new;
+        })
+        (record {
+          left = S.left source.old;
+          left' = S.left source.new;
+          source_faults = S.faults source.old;
+          source_faults' = S.faults source.new;
+          given = K.given sink.old;
+          given' = K.given sink.new;
+          sink_faults = K.faults sink.old;
+          sink_faults' = K.faults sink.new;
+        })
+        → (result ≡ 0) ⊎ (result ≡ 5) }
+{
+    let _ = rt;
+    let _ = pace;
+    number(run_words(alloc, words, source, sink, bay))
+}
