@@ -1,0 +1,11 @@
+//! Rows of the program's behaviour: what is sent, what is answered, and what the origin then holds.
+#![tactic(auto)]
+
+#[cfg(test)]
+mod bench;
+#[cfg(test)]
+mod faults;
+#[cfg(test)]
+mod refusals;
+#[cfg(test)]
+mod writes;

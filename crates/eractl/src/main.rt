@@ -1,0 +1,73 @@
+//! The program: one command over image files and the standard streams. Standard output holds only what the command
+//! answers; why a file or a stream failed first stands on standard error.
+#![tactic(auto)]
+
+use era_base::Sink;
+use era_disks::{FileBay, FreePace, StdSink, StdSource};
+use era_top::era_top;
+use std::process::ExitCode;
+use std::{env, io};
+
+/// Why there are no words to run.
+#[derive(Clone, Copy, Debug)]
+enum NoWords {
+    /// A word isn't text.
+    Usage,
+    /// Memory was refused.
+    Memory,
+}
+
+fn main(rt: HostRuntime) -> ExitCode {
+    let mut source = StdSource::new(rt.stdin());
+    let mut sink = StdSink::new(rt.stdout());
+    let mut bay = FileBay::new(rt, rt.alloc());
+    let status = match words_of(&rt) {
+        Ok(words) => {
+            let words = words.as_slice();
+            era_top(
+                &rt,
+                rt.alloc(),
+                words,
+                &mut source,
+                &mut sink,
+                &mut bay,
+                &FreePace,
+            )
+        }
+        Err(NoWords::Usage) => answer(&mut sink, "refused Usage\n", 2),
+        Err(NoWords::Memory) => answer(&mut sink, "memory\n", 5),
+    };
+    if let Some((name, reason)) = bay.first_failure() {
+        let _ = eprintln!(rt; "{}: {reason}", name.as_str());
+    }
+    tell(&rt, "standard input", source.first_failure());
+    tell(&rt, "standard output", sink.first_failure());
+    ExitCode::from(status)
+}
+
+/// The words behind the program's name.
+fn words_of<R: env::Env + AllocGlobal>(rt: &R) -> Result<Vec<String>, NoWords> {
+    match env::args(rt) {
+        Ok(args) => match args.skip(1).collect::<Vec<String>>(rt.alloc()) {
+            Ok(words) => Ok(words),
+            Err(_) => Err(NoWords::Memory),
+        },
+        Err(reason) if reason.kind() == io::ErrorKind::OutOfMemory => Err(NoWords::Memory),
+        Err(_) => Err(NoWords::Usage),
+    }
+}
+
+/// Gives an answer that needs no device: the status, or that of a failed sink.
+fn answer<K: Sink>(sink: &mut K, text: &str, status: u8) -> u8 {
+    match sink.give(text.as_bytes()) {
+        Ok(()) => status,
+        Err(_) => 8,
+    }
+}
+
+/// One line on standard error where a stream has failed.
+fn tell<R: Eprint>(rt: &R, name: &str, failure: Option<io::Error>) {
+    if let Some(reason) = failure {
+        let _ = eprintln!(rt; "{name}: {reason}");
+    }
+}
