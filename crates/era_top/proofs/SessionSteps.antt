@@ -17,7 +17,7 @@ use Rattle.era_plan.specs.declared.round.PlanError.{PlanError}
 use Rattle.era_plan.specs.declared.round.Write.{Write}
 use Rattle.era_plan.specs.Grammar.{lines_of}
 use Rattle.era_plan.specs.declared.round.PlanError.TheVariants.{Line as LineError, Source as SourceError, Memory as MemoryError}
-use Rattle.era_plan.specs.Rounds.{SpellRound, Refuses, HasErrorCause}
+use Rattle.era_plan.specs.Rounds.{SpellRound, Refuses, FailsBehind, HasErrorCause}
 use Rattle.era_top.specs.declared.outcome.Outcome.{Outcome}
 use Rattle.era_top.specs.declared.outcome.Outcome.TheVariants.{OutOfRange, Done as DoneOutcome, Cut as CutOutcome}
 use Rattle.era_top.specs.declared.status.Status.{Status}
@@ -194,7 +194,8 @@ goes-round g contents around given given' writes outcomes h result run spelled p
 
 -- why a stream gave no round is why its session ended
 pub error-cause : (around : Around) (error : PlanError) → HasErrorCause around.source_faults around.source_faults' error → ((text : List ℕ) → around.left ≡ Some text → Refuses text error)
+    → ((text : List ℕ) → around.left ≡ Some text → FailsBehind text around.left' error)
     → (session : Session) → session.stop ≡ stop_of error → HasRunNothing around session → EndsBy around session (status_of error)
-error-cause around (LineError error) cause refused session stop idle = (idle, (error.line, stop, (λ text is. (refused text is).1)))
-error-cause around (SourceError count) cause refused session stop idle = (idle, stop ∙ ap (λ n. SourceFault n) cause.0, cause.1)
-error-cause around MemoryError cause refused session stop idle = (idle, stop)
+error-cause around (LineError error) cause refused front session stop idle = (idle, (error.line, stop, (λ text is. (refused text is).1)))
+error-cause around (SourceError count) cause refused front session stop idle = (idle, stop ∙ ap (λ n. SourceFault n) cause.0, cause.1, front)
+error-cause around MemoryError cause refused front session stop idle = (idle, stop)

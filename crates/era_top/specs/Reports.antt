@@ -69,6 +69,7 @@ pub record IsOrigin {D : Type 0} (disks : DiskFacts D) (bay : BayAround D) (line
 abbrev pub around_session : {D : Type 0} → DiskFacts D → StreamsAround → D → D → Around
 around_session disks streams lent back = record {
   left = streams.left;
+  left' = streams.left';
   source_faults = streams.source_faults;
   source_faults' = streams.source_faults';
   disk_faults = disks.faults lent;

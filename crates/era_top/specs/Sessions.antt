@@ -16,7 +16,7 @@ use Rattle.era_plan.specs.declared.round.Write.{Write}
 use Rattle.era_plan.specs.declared.round.PlanError.{PlanError}
 use Rattle.era_plan.specs.declared.round.PlanError.TheVariants.{Line as LineError, Source as SourceError, Memory as MemoryError}
 use Rattle.era_plan.specs.Grammar.{lines_of}
-use Rattle.era_plan.specs.Rounds.{SpellRound, IsFirstRefused}
+use Rattle.era_plan.specs.Rounds.{SpellRound, IsFirstRefused, IsReadInFront}
 use Rattle.era_top.specs.declared.status.Status.{Status}
 use Rattle.era_top.specs.declared.status.Status.TheVariants.{Done, Line, Fault, Memory, Source, Sink}
 use Rattle.era_top.specs.declared.outcome.Outcome.{Outcome}
@@ -35,6 +35,7 @@ session_text session = session_transcript session.journal session.commands sessi
 -- What the outside had when a session began and when it ended: the bytes that were left of the source, the counts of faults of the source and the disk, and what the disk tells.
 pub record Around : Type 0 where
   pub left : Option (List ℕ)
+  pub left' : Option (List ℕ)
   pub source_faults : ℕ
   pub source_faults' : ℕ
   pub disk_faults : ℕ
@@ -66,7 +67,7 @@ pub record HasRunNothing (around : Around) (session : Session) : Type 0 where
   pub no_event : next_place session.journal ≡ 0
   pub same : around.tells ≡ true → around.disk' ≡ around.disk
 
--- A session may end so, with this cause: every command answered and on the disk; the origin failed; a line was refused; the source failed; memory was refused; the sink failed before anything was read.
+-- A session may end so, with this cause: every command answered and on the disk; the origin failed; a line was refused; the source failed in front of the end of any refused line; memory was refused; the sink failed before anything was read.
 abbrev pub EndsBy : Around → Session → Status → Type 0
 EndsBy around session Done =
     HasReadAll around session × (in_flight session.journal ≡ [])
@@ -79,6 +80,7 @@ EndsBy around session Line =
     × ((text : List ℕ) → around.left ≡ Some text → IsFirstRefused (lines_of text) line))
 EndsBy around session Source =
     HasRunNothing around session × (session.stop ≡ SourceFault around.source_faults') × Rose around.source_faults around.source_faults'
+    × ((text : List ℕ) → around.left ≡ Some text → IsReadInFront text around.left')
 EndsBy around session Memory = HasRunNothing around session × (session.stop ≡ NoMemory)
 EndsBy around session Sink = HasRunNothing around session
 EndsBy around session status = ⊥

@@ -86,11 +86,12 @@ pub fn serve_round<K: Sink, D: Disk>(
 ) -> Status
     requires limits { IsWithinLimits commands.now }
     requires disk { D.sectors disk.old ≡ geometry.now.sectors }
-    ensures goes { (contents : List ℕ) (left : Option (List ℕ)) (faults faults' : ℕ)
+    ensures goes { (contents : List ℕ) (left left' : Option (List ℕ)) (faults faults' : ℕ)
         → ((text : List ℕ) → left ≡ Some text → SpellRound (lines_of text) commands.now)
         → GoesOn geometry.now contents
         (record {
           left = left;
+          left' = left';
           source_faults = faults;
           source_faults' = faults';
           disk_faults = D.faults disk.old;

@@ -22,6 +22,7 @@ pub fn serve<S: Source, K: Sink, D: Disk>(
     ensures goes { (contents : List ℕ) → Goes geometry.now contents
         (record {
           left = S.left source.old;
+          left' = S.left source.new;
           source_faults = S.faults source.old;
           source_faults' = S.faults source.new;
           disk_faults = D.faults disk.old;

@@ -7,7 +7,7 @@ use Rattle.era_top.proofs.round.serve_round.Goals as goal
 
 -- memory was refused before the first write
 pub returns-in_default-clause-goes : goal.returns-in_default-clause-goes
-returns-in_default-clause-goes g c = λ contents left faults faults' spelled.
+returns-in_default-clause-goes g c = λ contents left left' faults faults' spelled.
     goes-stop c.args.geometry.now contents _ (g.K.Sink.given c.args.sink.now) (g.K.Sink.given c.give_stop.new.sink) MemoryError c.give_stop.result (λ _. refl)
     (λ session is idle. (idle, is)) c.give_stop.ensures.printed
 
@@ -19,7 +19,7 @@ give_round-requires g c =
 
 -- the writes were run
 pub returns-clause-goes : goal.returns-clause-goes
-returns-clause-goes g c = λ contents left faults faults' spelled.
+returns-clause-goes g c = λ contents left left' faults faults' spelled.
     let run = c.run.ensures.run contents in
     goes-round c.args.geometry.now contents _ (g.K.Sink.given c.args.sink.now) (g.K.Sink.given c.give_round.new.sink) c.as_slice.result.now c.run.new.outcomes.items run.0 c.give_round.result
     run.1

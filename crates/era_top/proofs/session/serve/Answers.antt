@@ -12,7 +12,7 @@ pub returns-in-Ok-read_round-clause-goes : goal.returns-in-Ok-read_round-clause-
 returns-in-Ok-read_round-clause-goes g c = λ contents.
     goes-behind c.args.geometry.now contents _ (g.K.Sink.given c.args.sink.now) (g.K.Sink.given c.give_open.new.sink) (g.K.Sink.given c.serve_round.new.sink) c.serve_round.result
     (λ before is. c.in-Ok.ensures.given before is)
-    (c.serve_round.ensures.goes contents (g.S.Source.left c.args.source.now) (g.S.Source.faults c.args.source.now) (g.S.Source.faults c.read_round.new.source)
+    (c.serve_round.ensures.goes contents (g.S.Source.left c.args.source.now) (g.S.Source.left c.read_round.new.source) (g.S.Source.faults c.args.source.now) (g.S.Source.faults c.read_round.new.source)
     (λ text is. c.in-Ok-read_round.ensures.ok text is))
 
 -- the stream gave no round
@@ -21,5 +21,5 @@ returns-in-Err-clause-goes g c = λ contents.
     goes-behind c.args.geometry.now contents _ (g.K.Sink.given c.args.sink.now) (g.K.Sink.given c.give_open.new.sink) (g.K.Sink.given c.give_stop.new.sink) c.give_stop.result
     (λ before is. c.in-Ok.ensures.given before is)
     (goes-stop c.args.geometry.now contents _ (g.K.Sink.given c.give_open.new.sink) (g.K.Sink.given c.give_stop.new.sink) c.in-Err.error c.give_stop.result (λ _. refl)
-    (error-cause _ c.in-Err.error c.in-Err.ensures.cause (λ text is. c.in-Err.ensures.refused text is))
+    (error-cause _ c.in-Err.error c.in-Err.ensures.cause (λ text is. c.in-Err.ensures.refused text is) (λ text is. c.in-Err.ensures.front text is))
     c.give_stop.ensures.printed)
