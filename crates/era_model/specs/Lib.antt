@@ -15,8 +15,12 @@ pub mod Validity
 pub mod Usage
 pub mod Counts
 pub mod Changed
+pub mod Recovered
+pub mod Merging
+pub mod Crashes
 pub mod Conditions
 pub mod Legal
+pub mod Chains
 pub mod Rows
 pub mod RowsOfWrites
 pub mod RowsOfFaults
