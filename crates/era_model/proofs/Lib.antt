@@ -6,3 +6,5 @@ pub mod LegalWrites
 pub mod LegalFaults
 pub mod LegalSnapshots
 pub mod LegalDigests
+pub mod Flights
+pub mod Ascending
