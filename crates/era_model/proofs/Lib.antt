@@ -6,3 +6,4 @@ pub mod LegalWrites
 pub mod LegalFaults
 pub mod LegalSnapshots
 pub mod LegalDigests
+pub mod SwitchLasts
