@@ -6,5 +6,6 @@ pub mod LegalWrites
 pub mod LegalFaults
 pub mod LegalSnapshots
 pub mod LegalDigests
+pub mod SwitchLasts
 pub mod Flights
 pub mod Ascending

@@ -12,9 +12,11 @@ pub mod SessionRun
 pub mod Transcript
 pub mod Journal
 pub mod Validity
+pub mod MarkLaws
 pub mod Usage
 pub mod Counts
 pub mod Changed
+pub mod StreamLists
 pub mod Recovered
 pub mod Merging
 pub mod Crashes

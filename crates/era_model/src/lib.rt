@@ -11,6 +11,7 @@ mod journal;
 mod laws;
 mod marked_set;
 mod marks;
+mod marks_laws;
 mod opening;
 mod reply;
 mod set_list;
@@ -37,6 +38,7 @@ pub use laws::{
 };
 pub use marked_set::MarkedSet;
 pub use marks::Marks;
+pub use marks_laws::{last_eras_are_bounded, mark_gives_last_era, switch_keeps_last_eras};
 pub use opening::Opening;
 pub use reply::{Answer, Device, Reply};
 pub use set_list::SetList;
