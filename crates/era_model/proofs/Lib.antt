@@ -9,3 +9,7 @@ pub mod LegalDigests
 pub mod SwitchLasts
 pub mod Flights
 pub mod Ascending
+pub mod Coverage
+pub mod Asked
+pub mod DigestLasts
+pub mod Follows

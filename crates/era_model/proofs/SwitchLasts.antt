@@ -17,7 +17,7 @@ last_archived-push (first ∷ sets) set block =
     rw rest (omega arith)
 
 -- the eras of archived sets are below their bound
-last_archived-below : (blocks above below : ℕ) (sets : List ArchivedSet) (block : ℕ) → AreArchivedBetween blocks above below sets → above < below
+pub last_archived-below : (blocks above below : ℕ) (sets : List ArchivedSet) (block : ℕ) → AreArchivedBetween blocks above below sets → above < below
     → last_archived sets block < below
 last_archived-below blocks above below [] block archived room = omega arith
 last_archived-below blocks above below (set ∷ sets) block archived room =
@@ -28,7 +28,7 @@ last_archived-below blocks above below (set ∷ sets) block archived room =
     ]
 
 -- a smaller lower bound serves as well
-archived-weaker : (blocks above above' below : ℕ) (sets : List ArchivedSet) → above' ≤ above → AreArchivedBetween blocks above below sets → AreArchivedBetween blocks above' below sets
+pub archived-weaker : (blocks above above' below : ℕ) (sets : List ArchivedSet) → above' ≤ above → AreArchivedBetween blocks above below sets → AreArchivedBetween blocks above' below sets
 archived-weaker blocks above above' below [] less archived = tt
 archived-weaker blocks above above' below (set ∷ sets) less archived = ((let e = archived.0 in omega arith), archived.1, archived.2, archived.3)
 

@@ -23,6 +23,7 @@ pub mod Crashes
 pub mod Conditions
 pub mod Legal
 pub mod Chains
+pub mod Promises
 pub mod Rows
 pub mod RowsOfWrites
 pub mod RowsOfFaults
