@@ -13,3 +13,4 @@ pub mod Coverage
 pub mod Asked
 pub mod DigestLasts
 pub mod Follows
+pub mod LegalCrashes

@@ -28,3 +28,4 @@ pub mod Rows
 pub mod RowsOfWrites
 pub mod RowsOfFaults
 pub mod RowsOfDigests
+pub mod RowsOfCrashes

@@ -14,6 +14,7 @@ mod marks;
 mod marks_laws;
 mod opening;
 mod reply;
+mod session_laws;
 mod set_list;
 #[cfg(test)]
 mod tests;
@@ -41,4 +42,8 @@ pub use marks::Marks;
 pub use marks_laws::{last_eras_are_bounded, mark_gives_last_era, switch_keeps_last_eras};
 pub use opening::Opening;
 pub use reply::{Answer, Device, Reply};
+pub use session_laws::{
+    coverage_goes_on, end_is_among_the_crashes, marks_follow_journal, moments_are_legal,
+    no_changed_block_missed, no_unasked_block_listed, reopened_session_is_legal,
+};
 pub use set_list::SetList;
