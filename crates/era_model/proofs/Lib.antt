@@ -6,3 +6,7 @@ pub mod LegalWrites
 pub mod LegalFaults
 pub mod LegalSnapshots
 pub mod LegalDigests
+pub mod WritesInFlight
+pub mod FlagsOfRuns
+pub mod Histories
+pub mod RunsOfFlags

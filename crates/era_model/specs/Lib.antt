@@ -17,6 +17,7 @@ pub mod Counts
 pub mod Changed
 pub mod Conditions
 pub mod Legal
+pub mod PlainCalls
 pub mod Rows
 pub mod RowsOfWrites
 pub mod RowsOfFaults
