@@ -89,7 +89,7 @@ pub record MayTake (core : CoreState) (event : Event) : Type 0 where
   pub inside : AllowsInside core event
 
 -- A session may end with images that a crash may leave.
-pub record MayEnd (core : CoreState) (images : Images) : Type 0 where
+pub record MayLeaveImages (core : CoreState) (images : Images) : Type 0 where
   pub open_session : is_open core.history ≡ true
   pub possible : MayCrash core.history images
 
@@ -109,7 +109,7 @@ abbrev pub IsEnabled : CoreState → Step → Type 0
 IsEnabled core (Enter stripe) = MayEnter core stripe
 IsEnabled core (Leave stripe) = MayLeave core stripe
 IsEnabled core (Take event) = MayTake core event
-IsEnabled core (Crash images) = MayEnd core images
+IsEnabled core (Crash images) = MayLeaveImages core images
 IsEnabled core (Reopen stripes) = MayReopen core.history stripes
 
 -- How a session opens on the images of the one before: the marks after one switch, so in the era above theirs, with the held snapshot, the origin and the metadata disk of before, and its own number of stripes.

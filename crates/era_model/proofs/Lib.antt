@@ -10,3 +10,10 @@ pub mod WritesInFlight
 pub mod FlagsOfRuns
 pub mod Histories
 pub mod RunsOfFlags
+pub mod SwitchLasts
+pub mod Flights
+pub mod Ascending
+pub mod Coverage
+pub mod Asked
+pub mod DigestLasts
+pub mod Follows

@@ -1,4 +1,4 @@
--- Legal histories: each event meets its conditions at its own place. What a crash may leave, and an opening on something earlier, come with the machine that crashes and reopens; until then neither is legal.
+-- Legal histories: each happening meets its conditions at its own place.
 use Rattle.std.specs.Prelude.{◌≡◌, ℕ, ◌≤◌, true, false, List, [], ◌∷◌, length, is_some, None}
 use Rattle.era_base.specs.declared.ids.CmdId.{CmdId}
 use Rattle.era_model.specs.declared.event.Event.{Event}
@@ -9,10 +9,10 @@ use Rattle.era_model.specs.declared.event.Why.{Why}
 use Rattle.era_model.specs.declared.event.Why.TheVariants.{DataFault, MetaFault, End, Held, NoSnap, Idle, Memory}
 use Rattle.era_model.specs.declared.history.Happening.{Happening}
 use Rattle.era_model.specs.declared.history.Happening.TheVariants.{Opened, Happened, Crashed}
-use Rattle.era_model.specs.declared.history.Images.{Images}
 use Rattle.era_model.specs.declared.journal.Journal.{Journal}
 use Rattle.era_model.specs.declared.opening.Opening.{Opening}
 use Rattle.era_model.specs.Counts.{CountAscends, MetadataDisk, PartOf}
+use Rattle.era_model.specs.Crashes.{MayCrash, IsReopening}
 use Rattle.era_model.specs.Events.{is_switch_of, is_request_of}
 use Rattle.era_model.specs.History.{era_of, is_open}
 use Rattle.era_model.specs.Journal.{AreNumberedFrom, history_at}
@@ -80,14 +80,12 @@ pub record IsOpening (opening : Opening) : Type 0 where
   pub some_stripe : 1 ≤ opening.stripes
   pub few_stripes : opening.stripes ≤ 16
 
--- A session may open after what happened before.
+-- A session may open after what happened before: as the first one, or on the images that a crash left.
 abbrev pub MayOpen : List Happening → Opening → Type 0
 MayOpen [] opening = IsOpening opening
-MayOpen (happening ∷ earlier) opening = ⊥
-
--- A crash may leave the images.
-abbrev pub MayCrash : List Happening → Images → Type 0
-MayCrash h images = ⊥
+MayOpen (Opened before ∷ earlier) opening = ⊥
+MayOpen (Happened event ∷ earlier) opening = ⊥
+MayOpen (Crashed images ∷ earlier) opening = IsReopening earlier images opening
 
 -- Each happening may happen after what stands before it.
 abbrev pub IsLegal : List Happening → Type 0

@@ -15,6 +15,7 @@ mod last_eras;
 mod laws;
 mod marked_set;
 mod marks;
+mod marks_laws;
 mod opening;
 mod plain_calls;
 mod reply;
@@ -46,6 +47,7 @@ pub use laws::{
 };
 pub use marked_set::MarkedSet;
 pub use marks::Marks;
+pub use marks_laws::{last_eras_are_bounded, mark_gives_last_era, switch_keeps_last_eras};
 pub use opening::Opening;
 pub use plain_calls::{asked_since, changed_since, content_at};
 pub use reply::{Answer, Device, Reply};

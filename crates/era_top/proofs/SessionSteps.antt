@@ -99,7 +99,7 @@ goes-behind g contents around given given' given'' result was on = record {
 
 -- the journal of a session that ran nothing
 nothing : (g : Geometry) (contents : List ℕ) → IsJournalOf g contents [] [] (Opened (session_opening g contents) ∷ [])
-nothing g contents = record { opened = refl; legal = opening-legal g contents; era = refl; answered = refl; drawn = tt }
+nothing g contents = record { opened = refl; ongoing = refl; legal = opening-legal g contents; era = refl; answered = refl; drawn = tt }
 
 -- a session that ran nothing is one of the origin, which reads as before
 idle-session : (g : Geometry) (contents : List ℕ) (around : Around) (stop : Stop) → (around.tells ≡ true → around.disk' ≡ around.disk)

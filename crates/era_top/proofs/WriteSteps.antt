@@ -27,13 +27,6 @@ use Rattle.era_top.specs.Outcomes.{WriteAtBlock, ended_events, event_count}
 use Rattle.era_top.specs.Runs.{lane_zero, commands_from, place_of_write, events_at, AreAnswered, IsJournalOf, IsBetween, IsFresh}
 use Rattle.era_top.proofs.Journals.{same_number, same_command, other_number, other_number_back, at_opening-known, own-event, other-event, answered-kept, answered-push, drawn-more, drawn-last}
 
--- a legal journal that was opened is open
-pub open-legal : (h : List Happening) (g : Geometry) (contents : List ℕ) → at_opening None (λ o. Some o) h ≡ Some (session_opening g contents) → IsLegal h → is_open h ≡ true
-open-legal [] g contents opened legal = absurd (cc)
-open-legal (Opened opening ∷ h) g contents opened legal = refl
-open-legal (Happened event ∷ h) g contents opened legal = legal.0
-open-legal (Crashed images ∷ h) g contents opened legal = absurd legal.1
-
 -- a command stays fresh at an event of another one
 fresh-after : (h : List Happening) (event : Event) (n m : ℕ) → drawn_by event ≡ lane_zero n → n < m → is_go_of (lane_zero m) event ≡ false → IsFresh h m → IsFresh (Happened event ∷ h) m
 fresh-after h event n m drawn later go fresh = record {
@@ -73,6 +66,7 @@ go_place false start = start
 pub record IsReady (g : Geometry) (contents : List ℕ) (writes : List Write) (outcomes : List Outcome) (issue : Issue) (marks : List Bool) (before h : List Happening) : Type 0 where
   pub placed : place_of_write g issue.write ≡ Some issue.place
   pub opened : at_opening None (λ o. Some o) h ≡ Some (session_opening g contents)
+  pub ongoing : is_open h ≡ true
   pub legal : IsLegal h
   pub era : era_of h ≡ 1
   pub quiet : in_flight h ≡ []
@@ -97,6 +91,7 @@ pub ready-marked : (g : Geometry) (contents : List ℕ) (writes : List Write) (o
 ready-marked g contents writes outcomes marks h write place journal between placed within is = record {
   placed = placed;
   opened = journal.opened;
+  ongoing = journal.ongoing;
   legal = journal.legal;
   era = journal.era;
   quiet = between.quiet;
@@ -137,11 +132,12 @@ ready-unmarked g contents writes outcomes marks h write place journal between pl
     let id = lane_zero n in
     let tried : List Happening = Happened (Tried id place.0 1) ∷ h in
     let of_origin : place.0 < at_opening 0 blocks_at h = subst (λ b. place.0 < b) (sym (at_opening-known 0 blocks_at (session_opening g contents) h journal.opened)) within in
-    let open_now = open-legal h g contents journal.opened journal.legal in
+    let open_now = journal.ongoing in
     let before = (between.fresh n (omega arith)).no_event in
     record {
       placed = placed;
       opened = journal.opened;
+      ongoing = open_now;
       legal = (
         open_now,
         record { of_origin = of_origin; tried = rw (same_command n) refl; present = sym journal.era },
@@ -264,9 +260,10 @@ pub done-journal : (g : Geometry) (contents : List ℕ) (writes : List Write) (o
 done-journal g contents writes outcomes issue marks before h ready within sector whole =
     let n = length writes in
     let ends : Ends n (DoneEvent (lane_zero n)) = record { drawn = refl; no_go = λ m. refl } in
-    let open_now = open-legal h g contents ready.opened ready.legal in
+    let open_now = ready.ongoing in
     record {
       opened = ready.opened;
+      ongoing = open_now;
       legal = (
         open_now,
         record { writing = rw (same_command n) refl },
@@ -303,9 +300,10 @@ cut-journal g contents writes outcomes issue marks before h faults ready within 
     let n = length writes in
     let ended = CutEvent (lane_zero n) faults in
     let ends : Ends n ended = record { drawn = refl; no_go = λ m. refl } in
-    let open_now = open-legal h g contents ready.opened ready.legal in
+    let open_now = ready.ongoing in
     record {
       opened = ready.opened;
+      ongoing = open_now;
       legal = (
         open_now,
         record { writing = rw (same_command n) refl; rose = rw (same_command n) (rw (ready.untold) tt) },

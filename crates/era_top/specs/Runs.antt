@@ -10,7 +10,7 @@ use Rattle.era_model.specs.Changed.{IsCrashContent}
 use Rattle.era_model.specs.Commands.{events_of}
 use Rattle.era_model.specs.Counts.{FaultyDisk, CountsAreWithin, last_count}
 use Rattle.era_model.specs.Events.{is_go_of}
-use Rattle.era_model.specs.History.{at_opening, era_of, in_flight, next_place}
+use Rattle.era_model.specs.History.{at_opening, is_open, era_of, in_flight, next_place}
 use Rattle.era_model.specs.Journal.{session_opening}
 use Rattle.era_model.specs.Legal.{IsLegal}
 use Rattle.era_model.specs.Marking.{is_marked_in, some_event}
@@ -54,9 +54,10 @@ AreAnswered g h number start writes outcomes next = ⊥
 abbrev pub some_cut : List Outcome → Bool
 some_cut outcomes = list_any is_cut_outcome outcomes
 
--- The journal of writes that were run, with how each of them went: it is that of a first session of the origin, it is legal, it is in era 1, and each event is of one of the writes.
+-- The journal of writes that were run, with how each of them went: it is that of a first session of the origin, which is open, it is legal, it is in era 1, and each event is of one of the writes.
 pub record IsJournalOf (g : Geometry) (contents : List ℕ) (writes : List Write) (outcomes : List Outcome) (h : List Happening) : Type 0 where
   pub opened : at_opening None (λ opening. Some opening) h ≡ Some (session_opening g contents)
+  pub ongoing : is_open h ≡ true
   pub legal : IsLegal h
   pub era : era_of h ≡ 1
   pub answered : AreAnswered g h 0 0 writes outcomes (next_place h)

@@ -1,0 +1,5 @@
+use Rattle.era_model.proofs.SwitchLasts.{switch-keeps}
+use Rattle.era_model.proofs.marks_laws.switch_keeps_last_eras.Goals as goal
+
+pub returns : goal.returns
+returns c = switch-keeps
