@@ -9,7 +9,8 @@ use Rattle.era_model.specs.declared.history.Images.{Images}
 use Rattle.era_model.specs.declared.opening.Opening.{Opening}
 use Rattle.era_model.specs.CommandEvents.{written_stripe}
 use Rattle.era_model.specs.History.{at_opening, in_flight, is_open, stripe_now}
-use Rattle.era_model.specs.Legal.{MayCrash, MayHappen}
+use Rattle.era_model.specs.Crashes.{MayCrash}
+use Rattle.era_model.specs.Legal.{MayHappen}
 use Rattle.era_model.specs.Marks.{has, rolled}
 use Rattle.era_model.specs.Writes.{some_block}
 use Rattle.era_core.specs.declared.step.Step.{Step}

@@ -2,7 +2,7 @@
 use Rattle.std.specs.Prelude.{ℕ, ◌+◌, ◌*◌, ◌==◌, ◌&&◌, ◌||◌, not, nat_lt, nat_le, Bool, true, false, List, [], ◌∷◌, length, take, drop, filter, find, Option, Some, None, if◌then◌else◌}
 use Rattle.era_base.specs.Bytes.{splice}
 use Rattle.era_base.specs.declared.ids.CmdId.{CmdId}
-use Rattle.era_model.specs.declared.flight.FlightWrite.{FlightWrite}
+pub use Rattle.era_model.specs.declared.flight.FlightWrite.{FlightWrite}
 use Rattle.era_model.specs.Events.{same_id}
 
 -- The writes but for that of the command.
