@@ -6,6 +6,10 @@ pub mod LegalWrites
 pub mod LegalFaults
 pub mod LegalSnapshots
 pub mod LegalDigests
+pub mod WritesInFlight
+pub mod FlagsOfRuns
+pub mod Histories
+pub mod RunsOfFlags
 pub mod SwitchLasts
 pub mod Flights
 pub mod Ascending

@@ -5,7 +5,8 @@ use Rattle.era_model.specs.declared.event.Event.TheVariants.{Go, Done, Cut, Sett
 use Rattle.era_model.specs.declared.opening.Opening.{Opening}
 use Rattle.era_model.specs.declared.history.Happening.{Happening}
 use Rattle.era_model.specs.declared.history.Happening.TheVariants.{Opened, Happened, Crashed}
-use Rattle.era_model.specs.Writes.{FlightWrite, without, with_cut, write_of, bytes_of, content_after_write, block_bytes}
+use Rattle.era_model.specs.declared.flight.FlightWrite.{FlightWrite}
+use Rattle.era_model.specs.Writes.{without, with_cut, write_of, bytes_of, content_after_write, block_bytes}
 
 -- Something of the session's opening, or else what stands for none.
 abbrev pub at_opening : {T : Type 0} → T → (Opening → T) → List Happening → T

@@ -22,6 +22,7 @@ pub mod Merging
 pub mod Crashes
 pub mod Conditions
 pub mod Legal
+pub mod PlainCalls
 pub mod Chains
 pub mod Promises
 pub mod Rows

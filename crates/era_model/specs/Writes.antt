@@ -2,15 +2,8 @@
 use Rattle.std.specs.Prelude.{ℕ, ◌+◌, ◌*◌, ◌==◌, ◌&&◌, ◌||◌, not, nat_lt, nat_le, Bool, true, false, List, [], ◌∷◌, length, take, drop, filter, find, Option, Some, None, if◌then◌else◌}
 use Rattle.era_base.specs.Bytes.{splice}
 use Rattle.era_base.specs.declared.ids.CmdId.{CmdId}
+pub use Rattle.era_model.specs.declared.flight.FlightWrite.{FlightWrite}
 use Rattle.era_model.specs.Events.{same_id}
-
--- A write that was issued and neither acknowledged nor resolved. It is cut where it failed, so that its outcome isn't known.
-pub record FlightWrite : Type 0 where
-  pub id : CmdId
-  pub block : ℕ
-  pub first : ℕ
-  pub bytes : List ℕ
-  pub cut : Bool
 
 -- The writes but for that of the command.
 abbrev pub without : List FlightWrite → CmdId → List FlightWrite

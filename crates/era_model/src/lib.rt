@@ -1,31 +1,40 @@
 //! The model: the events of a session, the journal that they make, and what a journal means.
 #![tactic(auto)]
 
+mod block_content;
+mod block_runs;
 mod contents;
 mod entry;
 mod entry_list;
 mod era_runs;
 mod event;
+mod flight;
 mod history;
 mod journal;
+mod last_eras;
 mod laws;
 mod marked_set;
 mod marks;
 mod marks_laws;
 mod opening;
+mod plain_calls;
 mod reply;
 mod session_laws;
 mod set_list;
 #[cfg(test)]
 mod tests;
 
+pub use block_content::{follow_content, opening_content};
+pub use block_runs::runs_of_flags;
 pub use contents::Contents;
 pub use entry::Entry;
 pub use entry_list::EntryList;
 pub use era_runs::EraRuns;
 pub use event::{Event, Kind, Why};
+pub use flight::{FlightWrite, find_write, follow_writes, same_command};
 pub use history::{Happening, Images};
 pub use journal::Journal;
+pub use last_eras::is_covered;
 pub use laws::{
     acknowledged_writes_are_legal, checkpoints_over_a_cut_write_are_a_run,
     cut_write_is_a_data_fault, cut_write_keeps_the_era_until_resolved, digests_are_a_run,
@@ -41,6 +50,7 @@ pub use marked_set::MarkedSet;
 pub use marks::Marks;
 pub use marks_laws::{last_eras_are_bounded, mark_gives_last_era, switch_keeps_last_eras};
 pub use opening::Opening;
+pub use plain_calls::{asked_since, changed_since, content_at};
 pub use reply::{Answer, Device, Reply};
 pub use session_laws::{
     coverage_goes_on, end_is_among_the_crashes, marks_follow_journal, moments_are_legal,

@@ -1,0 +1,11 @@
+use Rattle.std.proofs.Common.{◌≡◌, ℕ, ◌<◌, vec_len}
+use Rattle.era_model.specs.Journal.{history_at}
+use Rattle.era_model.specs.Marks.{has}
+use Rattle.era_model.specs.Marking.{asked_since}
+use Rattle.era_model.proofs.plain_calls.asked_since.Given as goal
+
+abbrev pub invariant-loop-block : goal.invariant-loop-block
+invariant-loop-block l = let h = history_at l.journal.opening l.journal.entries l.place in record {
+  size : vec_len l.flags ≡ l.block;
+  flags : (block : ℕ) → block < l.block → has l.flags.items block ≡ asked_since h l.era block;
+}
