@@ -1,2 +1,6 @@
 pub mod Words
 pub mod Numbers
+pub mod Insides
+pub mod Accepted
+pub mod Ready
+pub mod Scheduling
