@@ -1,15 +1,15 @@
 -- Each step that the machine accepts keeps its history legal.
-use Rattle.std.proofs.Common.{◌≡◌, ℕ, true, false, List, [], ◌∷◌, Some, None, replicate, refl, ap, sym, ◌∙◌, subst}
+use Rattle.std.proofs.Common.{◌≡◌, ℕ, true, false, List, [], ◌∷◌, Some, None, replicate, refl, sym, subst}
 use Rattle.era_model.specs.declared.history.Happening.{Happening}
 use Rattle.era_model.specs.declared.history.Happening.TheVariants.{Opened, Happened, Crashed}
 use Rattle.era_model.specs.declared.history.Images.{Images}
 use Rattle.era_model.specs.declared.opening.Opening.{Opening}
 use Rattle.era_model.specs.Crashes.{IsReopening}
 use Rattle.era_model.specs.History.{at_opening, is_open}
-use Rattle.era_model.specs.Legal.{IsLegal, IsOpening}
+use Rattle.era_model.specs.Legal.{IsLegal}
 use Rattle.era_core.specs.declared.step.Step.{Step}
 use Rattle.era_core.specs.declared.step.Step.TheVariants.{Enter, Leave, Take, Crash, Reopen}
-use Rattle.era_core.specs.Machine.{CoreState, IsEnabled, MayReopen, MayReopenOn, Run, after_step, opened_core, reopened, reopening}
+use Rattle.era_core.specs.Machine.{CoreState, IsEnabled, MayReopen, MayReopenOn, Run, after_step, reopened, reopening}
 use Rattle.era_core.proofs.Words.{at-known}
 
 -- The opening of a session that is open.

@@ -1,28 +1,26 @@
 -- What may happen by one history may happen by another one that says the same.
-use Rattle.std.proofs.Common.{◌≡◌, ◌⊎◌, ℕ, ◌+◌, ◌*◌, ◌/◌, ◌<◌, ◌≤◌, Bool, true, false, ◌==◌, ◌&&◌, ◌||◌, List, [], ◌∷◌, length, Some, None, Option, refl, ap, sym, ◌∙◌, subst, inl, inr}
+use Rattle.std.proofs.Common.{◌≡◌, ℕ, ◌+◌, ◌*◌, ◌/◌, ◌<◌, ◌≤◌, Bool, true, false, ◌==◌, ◌&&◌, ◌||◌, List, [], ◌∷◌, length, Some, None, Option, refl, ap, sym, ◌∙◌, subst, inl, inr}
 use Rattle.std.specs.Prelude.{max, nat_le, nat_lt, is_some, slice_index}
 use Rattle.era_base.specs.declared.ids.CmdId.{CmdId}
 use Rattle.era_model.specs.declared.event.Event.{Event}
 use Rattle.era_model.specs.declared.event.Event.TheVariants.{Tried, Mark, Go, Done, Cut, Settle, Unsettled, Read, Roll, Kept, Snap, Dropped, Digest, List as ListEvent, Status, Refused}
 use Rattle.era_model.specs.declared.event.Kind.{Kind}
-use Rattle.era_model.specs.declared.event.Kind.TheVariants.{Write as WriteKind, Read as ReadKind, Checkpoint as CheckpointKind, TakeSnap as TakeSnapKind, DropSnap as DropSnapKind, Digest as DigestKind, Status as StatusKind, List as ListKind}
+use Rattle.era_model.specs.declared.event.Kind.TheVariants.{Write as WriteKind, Checkpoint as CheckpointKind, Status as StatusKind, List as ListKind}
 use Rattle.era_model.specs.declared.event.Why.{Why}
 use Rattle.era_model.specs.declared.event.Why.TheVariants.{DataFault, MetaFault, End, Held, NoSnap, Idle, Memory}
 use Rattle.era_model.specs.declared.history.Happening.{Happening}
 use Rattle.era_model.specs.declared.history.Images.{Images}
-use Rattle.era_model.specs.declared.opening.Opening.{Opening}
 use Rattle.era_model.specs.Changed.{IsCrashContent}
 use Rattle.era_model.specs.CommandEvents.{written_stripe}
-use Rattle.era_model.specs.Conditions.{ListsExactly, ListsSnapshot, MayList}
+use Rattle.era_model.specs.Conditions.{ListsSnapshot, MayList}
 use Rattle.era_model.specs.Counts.{CountAscends, FaultyDisk, PartCountAscends, PartOf, MetadataDisk, RoseFrom}
-use Rattle.era_model.specs.Crashes.{IsReopening, MayCrash, image_of}
+use Rattle.era_model.specs.Crashes.{MayCrash, image_of}
 use Rattle.era_model.specs.Digest.{digest_of}
-use Rattle.era_model.specs.Events.{is_metadata_fault_of, is_request_of, is_switch_of}
-use Rattle.era_model.specs.History.{at_opening, blocks_now, content, era_of, in_flight, known_bytes, stripe_now}
+use Rattle.era_model.specs.History.{blocks_now, in_flight, known_bytes, stripe_now}
 use Rattle.era_model.specs.Legal.{MayHappen, MayRefuse, NeedsVolatileEra}
-use Rattle.era_model.specs.Marking.{era_is_volatile, failed_after_switch, held_of, is_tried_in, journal_last_era, marks_of, some_event, switch_before_refusals}
+use Rattle.era_model.specs.Marking.{era_is_volatile, failed_after_switch, held_of, journal_last_era, marks_of, switch_before_refusals}
 use Rattle.era_model.specs.Marks.{BlockMarks, marks_last_era}
-use Rattle.era_model.specs.Recovered.{HaveJournalLasts, IsRecoveredFrom, IsSnapshotTaken, MayHaveEra, MayHold}
+use Rattle.era_model.specs.Recovered.{HaveJournalLasts, MayHaveEra, MayHold}
 use Rattle.era_model.specs.SessionRun.{place_now}
 use Rattle.era_model.specs.Usage.{IsUsage, held_block}
 use Rattle.era_model.specs.declared.flight.FlightWrite.{FlightWrite}
@@ -185,7 +183,7 @@ crash-same h h' images same may = record {
     size = may.origin.size ∙ ap length (at-same _ _ h h' same);
     blocks = λ block within.
         subst (λ size. IsCrashContent h' block (block_bytes size (known_bytes images.contents.bytes) block)) (at-same 0 (λ o. o.geometry.block_sectors) h h' same)
-          (crash-content-same h h' block (image_of h images block) same (may.origin.blocks block (subst (λ blocks. block < blocks) (sym (blocks-same h h' same)) within)));
+        (crash-content-same h h' block (image_of h images block) same (may.origin.blocks block (subst (λ blocks. block < blocks) (sym (blocks-same h h' same)) within)));
   };
   metadata = record {
     valid = may.metadata.valid;

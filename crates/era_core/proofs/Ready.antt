@@ -1,30 +1,25 @@
 -- A core that is ready for the next happening of a legal history, and the steps that keep it so.
-use Rattle.std.proofs.Common.{◌≡◌, ◌≢◌, ℕ, zero, suc, ◌+◌, ◌*◌, ◌/◌, ◌<◌, ◌≤◌, Bool, true, false, not, ◌==◌, ◌&&◌, ◌||◌, List, [], ◌∷◌, ◌++◌, length, Some, None, Option, replicate, refl, ap, sym, ◌∙◌, subst, arith, inl, inr}
-use Rattle.std.specs.Prelude.{option_map, slice_set, if◌then◌else◌}
+use Rattle.std.proofs.Common.{◌≡◌, ℕ, zero, suc, ◌+◌, ◌*◌, ◌<◌, ◌≤◌, Bool, true, false, not, ◌&&◌, ◌||◌, List, [], ◌∷◌, ◌++◌, length, Some, None, Option, refl, ap, sym, ◌∙◌, subst, arith, inl, inr}
+use Rattle.std.specs.Prelude.{slice_set, if◌then◌else◌}
 use Rattle.std.proofs.Math.Nat.{div-lt_iff_lt-mul, mul_comm}
 use Rattle.std.proofs.lemmas.Bool.{and_parts, cases_lt, cond_both, or_cases, or_left, or_right}
 use Rattle.std.proofs.lemmas.Grind.{div_ceil_times}
 use Rattle.std.proofs.lemmas.List.{get_or_past, length-set}
 use Rattle.era_base.specs.Geometry.{stripe_blocks, stripe_of}
 use Rattle.era_base.specs.declared.ids.CmdId.{CmdId}
-use Rattle.era_model.specs.declared.event.Event.{Event}
-use Rattle.era_model.specs.declared.event.Event.TheVariants.{Go, Done, Cut, Settle, Unsettled}
 use Rattle.era_model.specs.declared.flight.FlightWrite.{FlightWrite}
 use Rattle.era_model.specs.declared.history.Happening.{Happening}
-use Rattle.era_model.specs.declared.history.Happening.TheVariants.{Opened, Happened, Crashed}
-use Rattle.era_model.specs.declared.opening.Opening.{Opening}
-use Rattle.era_model.specs.CommandEvents.{written_block, written_stripe}
+use Rattle.era_model.specs.CommandEvents.{written_stripe}
 use Rattle.era_model.specs.Events.{same_id}
 use Rattle.era_model.specs.History.{at_opening, blocks_at, blocks_now, in_flight, is_open, stripe_now}
-use Rattle.era_model.specs.Legal.{MayHappen}
 use Rattle.era_model.specs.Marks.{has}
 use Rattle.era_model.specs.Writes.{is_cut, is_writing, with_cut, without}
 use Rattle.era_core.specs.declared.step.Step.{Step}
-use Rattle.era_core.specs.declared.step.Step.TheVariants.{Enter, Leave, Take}
-use Rattle.era_core.specs.Machine.{AllowsInside, CoreState, IsEnabled, IsInside, Run, after_step, count_inside, is_metadata_event, was_kept, with_event, with_stripe}
-use Rattle.era_core.specs.Schedules.{unnumbered, unnumbered_event}
+use Rattle.era_core.specs.declared.step.Step.TheVariants.{Enter, Leave}
+use Rattle.era_core.specs.Machine.{CoreState, IsEnabled, IsInside, Run, after_step, count_inside, was_kept, with_stripe}
+use Rattle.era_core.specs.Schedules.{unnumbered}
 use Rattle.era_core.proofs.Accepted.{HasOpened, has-opened}
-use Rattle.era_core.proofs.Insides.{count-none, entered, inside-within, kept-one, kept-push, left-behind, still-inside}
+use Rattle.era_core.proofs.Insides.{count-none, inside-within, kept-push, left-behind, still-inside}
 use Rattle.era_core.proofs.Words.{SaysSame, at-known}
 
 -- whether the command has a write among those in flight
@@ -166,7 +161,7 @@ leave-from (suc count) stripe h core size ready quiet before =
     by_flag true inside more =
         let after : CoreState = with_stripe core stripe false in
         let rest : LeadsOut after h = more after (let e = length-set core.inside stripe false in omega arith) (left-ready h core stripe ready quiet) quiet
-            (left-behind core.inside stripe (inside-within core.inside stripe inside) before) in
+        (left-behind core.inside stripe (inside-within core.inside stripe inside) before) in
         record { leads = step-first core (Leave stripe) h (may-leave h core stripe ready quiet inside) rest.leads; none = rest.none }
     by_flag false outside more = more core (omega arith) ready quiet (λ other less. elim (cases_lt other stripe) [
       | inl below ↦ before other below

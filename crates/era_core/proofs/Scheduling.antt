@@ -1,27 +1,25 @@
 -- Each legal history is scheduled: steps that the machine accepts lead to it, but for the numbers of eras that were kept.
-use Rattle.std.proofs.Common.{◌≡◌, ◌≢◌, ℕ, zero, suc, ◌+◌, ◌<◌, ◌≤◌, Bool, true, false, ◌||◌, List, [], ◌∷◌, ◌++◌, length, Some, None, Option, replicate, refl, ap, sym, ◌∙◌, subst, arith, inl, inr}
-use Rattle.std.specs.Prelude.{option_map, slice_set, if◌then◌else◌}
-use Rattle.std.proofs.lemmas.Bool.{cond_both, or_cases}
+use Rattle.std.proofs.Common.{◌≡◌, ◌≢◌, ℕ, zero, suc, ◌<◌, ◌≤◌, Bool, true, false, List, [], ◌∷◌, ◌++◌, length, Some, None, Option, replicate, refl, ap, sym, ◌∙◌, arith}
+use Rattle.std.specs.Prelude.{slice_set}
+use Rattle.std.proofs.lemmas.Bool.{cond_both}
 use Rattle.std.proofs.lemmas.List.{length-replicate}
 use Rattle.std.proofs.lemmas.Option.{same_Some}
 use Rattle.era_base.specs.declared.ids.CmdId.{CmdId}
-use Rattle.era_base.specs.declared.geometry.Geometry.{Geometry}
 use Rattle.era_model.specs.declared.event.Event.{Event}
 use Rattle.era_model.specs.declared.event.Event.TheVariants.{Go, Done, Cut, Settle, Unsettled, Roll, Kept}
 use Rattle.era_model.specs.declared.history.Happening.{Happening}
 use Rattle.era_model.specs.declared.history.Happening.TheVariants.{Opened, Happened, Crashed}
 use Rattle.era_model.specs.declared.history.Images.{Images}
 use Rattle.era_model.specs.declared.opening.Opening.{Opening}
-use Rattle.era_model.specs.CommandEvents.{written_block, written_stripe}
-use Rattle.era_model.specs.Crashes.{IsReopening, MayCrash, geometry_now}
+use Rattle.era_model.specs.CommandEvents.{written_stripe}
+use Rattle.era_model.specs.Crashes.{IsReopening, MayCrash}
 use Rattle.era_model.specs.Events.{same_id}
-use Rattle.era_model.specs.History.{at_opening, blocks_now, in_flight, is_open, stripe_now}
+use Rattle.era_model.specs.History.{at_opening, in_flight, is_open, stripe_now}
 use Rattle.era_model.specs.Legal.{IsLegal, IsOpening, MayHappen}
 use Rattle.era_model.specs.Marks.{has}
-use Rattle.era_core.specs.declared.step.Step.{Step}
 use Rattle.era_core.specs.declared.step.Step.TheVariants.{Enter, Take, Crash, Reopen}
-use Rattle.era_core.specs.Machine.{AllowsInside, CoreState, IsInside, Run, after_step, count_inside, is_metadata_event, opened_core, reopening, was_kept, with_event, with_stripe}
-use Rattle.era_core.specs.Schedules.{IsSchedule, IsScheduled, unnumbered, unnumbered_event}
+use Rattle.era_core.specs.Machine.{AllowsInside, CoreState, IsInside, Run, count_inside, is_metadata_event, opened_core, reopening, was_kept, with_event, with_stripe}
+use Rattle.era_core.specs.Schedules.{IsScheduled, unnumbered, unnumbered_event}
 use Rattle.era_core.proofs.Accepted.{HasOpened, has-opened}
 use Rattle.era_core.proofs.Insides.{count-length, count-outside, entered, kept-one, none-inside, some-inside}
 use Rattle.era_core.proofs.Numbers.{crash-same, may-same}
@@ -171,7 +169,7 @@ reopening-led h core images opening ready may re =
         (
           record { goes_on = re.below_last; some_stripe = re.some_stripe; few_stripes = re.few_stripes },
           ap (λ o. opened_after (Crashed images ∷ core.history) o) (sym (opening-is h known.opening opening images of_h re))
-          ∙ sym (at-known _ _ core.history known.opening known.is),
+              ∙ sym (at-known _ _ core.history known.opening known.is),
         ),
       );
       ready = opened-ready (Crashed images ∷ h) (Crashed images ∷ core.history) opening (ap (λ rest. Crashed images ∷ rest) ready.numbers) re.some_stripe;

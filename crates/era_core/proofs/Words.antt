@@ -1,5 +1,5 @@
 -- What the conditions of events read of a history, and that the number of an era that was kept isn't among it.
-use Rattle.std.proofs.Common.{◌≡◌, ◌⊎◌, ℕ, Bool, true, false, ◌==◌, ◌&&◌, ◌||◌, List, [], ◌∷◌, Some, None, Option, refl, ap, sym, ◌∙◌, inl, inr}
+use Rattle.std.proofs.Common.{◌≡◌, ℕ, Bool, true, false, ◌==◌, ◌&&◌, ◌||◌, List, [], ◌∷◌, Some, None, Option, refl, ap, sym, ◌∙◌, inl, inr}
 use Rattle.std.specs.Prelude.{option_map, if◌then◌else◌}
 use Rattle.era_base.specs.declared.ids.CmdId.{CmdId}
 use Rattle.era_model.specs.declared.event.Event.{Event}
@@ -7,7 +7,6 @@ use Rattle.era_model.specs.declared.event.Event.TheVariants.{Tried, Mark, Go, Do
 use Rattle.era_model.specs.declared.event.Why.TheVariants.{DataFault, MetaFault}
 use Rattle.era_model.specs.declared.history.Happening.{Happening}
 use Rattle.era_model.specs.declared.history.Happening.TheVariants.{Opened, Happened, Crashed}
-use Rattle.era_model.specs.declared.history.Images.{Images}
 use Rattle.era_model.specs.declared.opening.Opening.{Opening}
 use Rattle.era_model.specs.CommandEvents.{written_block, written_stripe}
 use Rattle.era_model.specs.Counts.{FaultyDisk, count_of_fault, fault_of, last_count, part_fault}

@@ -1,9 +1,9 @@
 -- Histories that the machine makes by a list of steps.
-use Rattle.std.specs.Prelude.{◌≡◌, ℕ, List, [], ◌∷◌}
+use Rattle.std.specs.Prelude.{◌≡◌, List, [], ◌∷◌}
 use Rattle.era_model.specs.declared.event.Event.{Event}
 use Rattle.era_model.specs.declared.event.Event.TheVariants.{Kept}
 use Rattle.era_model.specs.declared.history.Happening.{Happening}
-use Rattle.era_model.specs.declared.history.Happening.TheVariants.{Happened}
+use Rattle.era_model.specs.declared.history.Happening.TheVariants.{Opened, Happened, Crashed}
 use Rattle.era_model.specs.declared.opening.Opening.{Opening}
 use Rattle.era_model.specs.Legal.{IsOpening}
 use Rattle.era_core.specs.declared.step.Step.{Step}
@@ -19,6 +19,13 @@ abbrev pub unnumbered : List Happening → List Happening
 unnumbered [] = []
 unnumbered (Happened event ∷ earlier) = Happened (unnumbered_event event) ∷ unnumbered earlier
 unnumbered (happening ∷ earlier) = happening ∷ unnumbered earlier
+
+-- The history of the present session alone, without the sessions before it.
+abbrev pub session_of : List Happening → List Happening
+session_of [] = []
+session_of (Opened opening ∷ earlier) = Opened opening ∷ []
+session_of (Happened event ∷ earlier) = Happened event ∷ session_of earlier
+session_of (Crashed images ∷ earlier) = Crashed images ∷ session_of earlier
 
 -- Steps that the machine accepts one after another, from the opening of a first session on, and the core that they lead to.
 pub record IsSchedule (opening : Opening) (steps : List Step) (last : CoreState) : Type 0 where
