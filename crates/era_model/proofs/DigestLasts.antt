@@ -32,12 +32,14 @@ record IsTranscribed (set : ArchivedSet) (array after : List ℕ) (block : ℕ) 
   pub entry : (entry_of after block ≡ entry_of array block) ⊎ ((entry_of after block ≡ set.era) × (has set.blocks block ≡ true))
 
 transcribed-entry : (set : ArchivedSet) (test : ℕ → Bool) (array : List ℕ) (block : ℕ) → IsTranscribed set array (transcribed set test 0 array) block
-transcribed-entry set test array block = record { entry = elim (cases_lt block (length array)) [
-  | inl within ↦ by_flag (test block) (has set.blocks block) refl
-      (subst (λ b. entry_of (transcribed set test 0 array) block ≡ (if test b && has set.blocks b then set.era else entry_of array block)) (let e : 0 + block ≡ block = omega arith in e)
+transcribed-entry set test array block = record {
+  entry = elim (cases_lt block (length array)) [
+    | inl within ↦ by_flag (test block) (has set.blocks block) refl
+        (subst (λ b. entry_of (transcribed set test 0 array) block ≡ (if test b && has set.blocks b then set.era else entry_of array block)) (let e : 0 + block ≡ block = omega arith in e)
         (entry-transcribed set test 0 array block within))
-  | inr past ↦ inl (get_or_past _ block 0 (rw (length-transcribed set test 0 array) past) ∙ sym (get_or_past array block 0 past))
-] }
+    | inr past ↦ inl (get_or_past _ block 0 (rw (length-transcribed set test 0 array) past) ∙ sym (get_or_past array block 0 past))
+  ];
+}
   where
     by_flag : (passes flag : Bool) → has set.blocks block ≡ flag → entry_of (transcribed set test 0 array) block ≡ (if passes && flag then set.era else entry_of array block)
         → (entry_of (transcribed set test 0 array) block ≡ entry_of array block) ⊎ ((entry_of (transcribed set test 0 array) block ≡ set.era) × (has set.blocks block ≡ true))
