@@ -1,17 +1,16 @@
 -- Eras ascend over a legal history, and where a block's last marked era is below the present one, no write of it is in flight.
-use Rattle.std.proofs.Common.{◌≡◌, ◌≢◌, ◌⊎◌, ℕ, ◌+◌, ◌<◌, ◌≤◌, Bool, true, false, ◌==◌, ◌&&◌, ◌||◌, List, [], ◌∷◌, Some, None, Option, refl, ap, sym, ◌∙◌, subst, arith, inl, inr}
+use Rattle.std.proofs.Common.{◌≡◌, ◌⊎◌, ℕ, ◌+◌, ◌<◌, ◌≤◌, Bool, true, false, ◌==◌, ◌&&◌, List, [], ◌∷◌, Some, None, refl, ap, sym, ◌∙◌, subst, arith, inl, inr}
 use Rattle.std.specs.Prelude.{max, nat_le, if◌then◌else◌}
-use Rattle.std.proofs.lemmas.Bool.{or_parts, or_from, or_cases, and_parts, cond_both, eqb-true, leb-true}
+use Rattle.std.proofs.lemmas.Bool.{or_from, or_cases, and_parts, cond_both, eqb-true, leb-true}
 use Rattle.std.proofs.lemmas.Bool.Decides.{eqb_tells}
 use Rattle.era_model.specs.declared.event.Event.{Event}
-use Rattle.era_model.specs.declared.event.Event.TheVariants.{Tried, Mark, Go, Done, Cut, Settle, Unsettled, Read, Roll, Kept, Snap, Dropped, Digest, List as ListEvent, Status, Refused}
+use Rattle.era_model.specs.declared.event.Event.TheVariants.{Mark, Go, Done, Cut, Settle, Roll}
 use Rattle.era_model.specs.declared.history.Happening.{Happening}
 use Rattle.era_model.specs.declared.history.Happening.TheVariants.{Opened, Happened, Crashed}
 use Rattle.era_model.specs.Chains.{IsMoment}
 use Rattle.era_model.specs.History.{era_of, in_flight}
 use Rattle.era_model.specs.Legal.{IsLegal}
 use Rattle.era_model.specs.Marking.{era_start, first_some, journal_last_era, is_marked_in}
-use Rattle.era_model.specs.Recovered.{MayHaveEra}
 use Rattle.era_model.proofs.Flights.{touches, touches-without, touches-with_cut}
 
 -- an event leaves the era, or moves it up

@@ -1,7 +1,7 @@
 -- A block that no mark lists keeps its content, over all sessions, from any moment on.
-use Rattle.std.proofs.Common.{◌≡◌, ◌≢◌, ◌⊎◌, ℕ, ◌+◌, ◌<◌, ◌≤◌, Bool, true, false, ◌==◌, ◌||◌, List, [], ◌∷◌, Some, None, Option, refl, ap, sym, ◌∙◌, subst, arith, inl, inr}
-use Rattle.std.specs.Prelude.{max, nat_le, if◌then◌else◌}
-use Rattle.std.proofs.lemmas.Bool.{cond_both, or_from, true_from_ne_false, leb-false, lt-leb}
+use Rattle.std.proofs.Common.{◌≡◌, ℕ, ◌<◌, ◌≤◌, true, false, ◌==◌, List, [], ◌∷◌, Some, None, Option, refl, ap, sym, ◌∙◌, subst, arith, inl, inr}
+use Rattle.std.specs.Prelude.{max}
+use Rattle.std.proofs.lemmas.Bool.{cond_both, true_from_ne_false, leb-false, lt-leb}
 use Rattle.std.proofs.lemmas.Bool.Decides.{eqb_tells}
 use Rattle.std.proofs.lemmas.Option.{same_Some}
 use Rattle.era_base.specs.Geometry.{blocks_of}
@@ -15,13 +15,13 @@ use Rattle.era_model.specs.declared.opening.Opening.{Opening}
 use Rattle.era_model.specs.Chains.{IsMoment}
 use Rattle.era_model.specs.Changed.{IsCrashContent, IsChangedSince}
 use Rattle.era_model.specs.Crashes.{MayCrash, IsReopening, geometry_now, image_of}
-use Rattle.era_model.specs.History.{at_opening, blocks_at, blocks_now, content, contents_of, era_of, in_flight, known_bytes}
+use Rattle.era_model.specs.History.{at_opening, blocks_at, blocks_now, content, era_of, in_flight, known_bytes}
 use Rattle.era_model.specs.Legal.{IsLegal}
-use Rattle.era_model.specs.Marking.{journal_last_era, era_start}
-use Rattle.era_model.specs.Marks.{BlockMarks, marks_last_era, rolled, written_since}
+use Rattle.era_model.specs.Marking.{journal_last_era}
+use Rattle.era_model.specs.Marks.{BlockMarks, marks_last_era, written_since}
 use Rattle.era_model.specs.Recovered.{HaveJournalLasts, IsRecoveredFrom}
 use Rattle.era_model.specs.Writes.{block_bytes}
-use Rattle.era_model.proofs.Ascending.{IsBegun, era-moment, legal-before, legal-moment, quiet-below, start-begun}
+use Rattle.era_model.proofs.Ascending.{IsBegun, era-moment, legal-moment, quiet-below, start-begun}
 use Rattle.era_model.proofs.Flights.{touches, touches-without, touches-with_cut, content-kept, image-is_content}
 use Rattle.era_model.proofs.SwitchLasts.{switch-keeps}
 

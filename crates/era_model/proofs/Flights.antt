@@ -1,6 +1,6 @@
 -- A block that no write in flight is of: what happens to it, and what a crash may leave of it.
-use Rattle.std.proofs.Common.{◌≡◌, ℕ, ◌+◌, ◌*◌, ◌<◌, Bool, true, false, not, ◌==◌, ◌&&◌, ◌||◌, List, [], ◌∷◌, length, get_or, Some, None, Option, refl, ap, sym, ◌∙◌, subst, arith}
-use Rattle.std.specs.Prelude.{find, filter, nat_le, nat_lt, if◌then◌else◌}
+use Rattle.std.proofs.Common.{◌≡◌, ℕ, Bool, true, false, not, ◌==◌, ◌||◌, List, [], ◌∷◌, Some, refl}
+use Rattle.std.specs.Prelude.{if◌then◌else◌}
 use Rattle.std.proofs.lemmas.Bool.{or_parts, or_from, cond_both}
 use Rattle.std.proofs.lemmas.Grind.{same_number_lists}
 use Rattle.era_base.specs.declared.ids.CmdId.{CmdId}
@@ -8,7 +8,7 @@ use Rattle.era_model.specs.declared.history.Happening.{Happening}
 use Rattle.era_model.specs.Changed.{IsCrashContent}
 use Rattle.era_model.specs.Events.{same_id}
 use Rattle.era_model.specs.History.{content, in_flight}
-use Rattle.era_model.specs.Writes.{FlightWrite, without, with_cut, write_of, writes_byte, is_written_at, bytes_of, content_after_write}
+use Rattle.era_model.specs.Writes.{FlightWrite, without, with_cut, write_of, writes_byte, is_written_at, content_after_write}
 
 -- whether one of the writes is of the block
 abbrev pub touches : List FlightWrite → ℕ → Bool

@@ -1,8 +1,7 @@
 -- The marks follow the journal over all legal histories, and as they stand they may be recovered.
-use Rattle.std.proofs.Common.{◌≡◌, ◌⊎◌, ℕ, ◌+◌, ◌<◌, ◌≤◌, Bool, true, false, ◌==◌, List, [], ◌∷◌, Some, None, Option, length, refl, ap, sym, ◌∙◌, subst, arith, inl, inr}
-use Rattle.std.specs.Prelude.{max, nat_lt, if◌then◌else◌}
+use Rattle.std.proofs.Common.{◌≡◌, ℕ, ◌+◌, ◌<◌, true, ◌==◌, List, [], ◌∷◌, Some, None, Option, length, refl, ap, sym, ◌∙◌, subst, inl}
+use Rattle.std.specs.Prelude.{nat_lt, if◌then◌else◌}
 use Rattle.std.proofs.lemmas.Bool.{cond_both}
-use Rattle.era_base.specs.declared.geometry.Geometry.{Geometry}
 use Rattle.era_model.specs.declared.event.Event.{Event}
 use Rattle.era_model.specs.declared.event.Event.TheVariants.{Mark, Roll, Snap, Dropped, Digest}
 use Rattle.era_model.specs.declared.history.Happening.{Happening}
@@ -11,10 +10,10 @@ use Rattle.era_model.specs.declared.history.Images.{Images}
 use Rattle.era_model.specs.declared.opening.Opening.{Opening}
 use Rattle.era_model.specs.Crashes.{IsReopening}
 use Rattle.era_model.specs.Digest.{digested_from}
-use Rattle.era_model.specs.History.{at_opening, blocks_now, era_of, is_open}
+use Rattle.era_model.specs.History.{is_open}
 use Rattle.era_model.specs.Legal.{IsLegal}
 use Rattle.era_model.specs.Marking.{held_of, journal_last_era, marks_of}
-use Rattle.era_model.specs.Marks.{ArchivedSet, BlockMarks, blocks_of_marks, marks_last_era, rolled, with_block, with_current_archived, with_oldest_merged}
+use Rattle.era_model.specs.Marks.{ArchivedSet, BlockMarks, blocks_of_marks, marks_last_era, rolled, with_current_archived, with_oldest_merged}
 use Rattle.era_model.specs.Promises.{KeepsLastEras, MarksFollowJournal}
 use Rattle.era_model.specs.Recovered.{IsDurableFrom, IsRecoveredFrom, MayHold}
 use Rattle.era_model.specs.Validity.{AreValidMarks, IsValidSnapshot}

@@ -17,3 +17,4 @@ pub mod Coverage
 pub mod Asked
 pub mod DigestLasts
 pub mod Follows
+pub mod LegalCrashes

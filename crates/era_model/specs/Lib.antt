@@ -29,3 +29,4 @@ pub mod Rows
 pub mod RowsOfWrites
 pub mod RowsOfFaults
 pub mod RowsOfDigests
+pub mod RowsOfCrashes

@@ -1,5 +1,5 @@
 -- What the lists of a stream have to name, by its commands alone.
-use Rattle.std.specs.Prelude.{◌≡◌, ◌↔◌, ℕ, ◌+◌, ◌/◌, ◌≤◌, max, sum_by, Bool, true, false, List, [], ◌∷◌, ◌++◌, length, Option, None, Some, option_map, if◌then◌else◌}
+use Rattle.std.specs.Prelude.{◌≡◌, ◌↔◌, ℕ, ◌+◌, ◌/◌, ◌≤◌, max, sum_by, Bool, true, false, List, ◌∷◌, ◌++◌, length, Option, None, Some, option_map, if◌then◌else◌}
 use Rattle.era_base.specs.Geometry.{place_at}
 use Rattle.era_base.specs.Runs.{AreRuns, runs_cover}
 use Rattle.era_base.specs.declared.geometry.Geometry.{Geometry}

@@ -19,6 +19,7 @@ mod marks_laws;
 mod opening;
 mod plain_calls;
 mod reply;
+mod session_laws;
 mod set_list;
 #[cfg(test)]
 mod tests;
@@ -53,4 +54,8 @@ pub use marks_laws::{last_eras_are_bounded, mark_gives_last_era, switch_keeps_la
 pub use opening::Opening;
 pub use plain_calls::{asked_since, changed_since, content_at};
 pub use reply::{Answer, Device, Reply};
+pub use session_laws::{
+    coverage_goes_on, end_is_among_the_crashes, marks_follow_journal, moments_are_legal,
+    no_changed_block_missed, no_unasked_block_listed, reopened_session_is_legal,
+};
 pub use set_list::SetList;

@@ -49,7 +49,7 @@ pub running-none : (g : Geometry) (contents : List ℕ) (marks : List Bool) (tel
     → marks ≡ replicate (blocks_of g.sectors g.block_sectors) false
     → Running g contents [] [] marks tells faults faults disk disk (Opened (session_opening g contents) ∷ [])
 running-none g contents marks tells faults disk none = record {
-  journal = record { opened = refl; legal = opening-legal g contents; era = refl; answered = refl; drawn = tt };
+  journal = record { opened = refl; ongoing = refl; legal = opening-legal g contents; era = refl; answered = refl; drawn = tt };
   between = record {
     quiet = refl;
     size = rw none (length-replicate _ false);
@@ -81,6 +81,7 @@ running-range g contents writes outcomes marks tells faults faults' disk disk' h
     record {
       journal = record {
         opened = run.journal.opened;
+        ongoing = run.journal.ongoing;
         legal = run.journal.legal;
         era = run.journal.era;
         answered = answered-push g h 0 0 writes outcomes (next_place h) write OutOfRange (next_place h) run.journal.answered (rw none refl)

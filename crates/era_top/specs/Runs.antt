@@ -1,5 +1,5 @@
 -- Runs of a stream's writes: their commands, the events that each of them has, and the journal of them all.
-use Rattle.std.specs.Prelude.{◌≡◌, ◌≢◌, ℕ, ◌+◌, ◌/◌, ◌<◌, ◌≤◌, Bool, false, List, [], ◌∷◌, length, slice_index_or, Option, Some, None}
+use Rattle.std.specs.Prelude.{true, ◌≡◌, ◌≢◌, ℕ, ◌+◌, ◌/◌, ◌<◌, ◌≤◌, Bool, false, List, [], ◌∷◌, length, slice_index_or, Option, Some, None}
 use Rattle.std.specs.List.{list_any}
 use Rattle.era_base.specs.declared.geometry.Geometry.{Geometry}
 use Rattle.era_base.specs.declared.ids.CmdId.{CmdId}
