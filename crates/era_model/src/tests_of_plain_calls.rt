@@ -1,0 +1,131 @@
+//! The plain calls over the journal of two writes and a read.
+
+ghost use Rattle.std.specs.Prelude.{◌≤◌, IfOk};
+ghost use Rattle.era_model.specs.PlainCalls.{TellsAllBytes};
+
+use crate::{
+    Contents, Entry, EntryList, EraRuns, Event, Journal, Marks, Opening, SetList, asked_since,
+    changed_since, content_at,
+};
+use era_base::{Bytes, CmdId, Geometry, Memory, Runs};
+use std::alloc::Global;
+use std::test::*;
+
+/// A sector of the same byte.
+fn sector_of(alloc: Global, byte: u8) -> Result<Bytes, Memory> {
+    Ok(Bytes::from_vec(vec![in alloc; byte; 512]?))
+}
+
+/// A first session over 64 blocks of zeros.
+fn small_opening(alloc: Global) -> Result<Opening, Fail>
+    ensures { IfOk result TellsAllBytes }
+{
+    let geometry = Geometry::new(512, 8)?;
+    let zeros = Bytes::from_vec(vec![in alloc; 0; 262_144]?);
+    Ok(Opening {
+        geometry,
+        era: 1,
+        marks: Marks {
+            geometry,
+            era: 1,
+            array: EraRuns::new(alloc),
+            archive: SetList::new(alloc),
+            current: Runs::new(alloc),
+        },
+        held: None,
+        total: 57,
+        stripes: 4,
+        contents: Contents { bytes: Some(zeros) },
+    })
+}
+
+/// A write of one sector of block 0, acknowledged. Its first event has this place.
+fn write_sector(
+    alloc: Global,
+    entries: &mut EntryList,
+    place: u64,
+    number: u32,
+    first: u32,
+) -> Result<(), Memory>
+    requires { place ≤ 100 }
+{
+    let id = CmdId { lane: 0, number };
+    let bytes = sector_of(alloc, 170)?;
+    entries.push(Entry {
+        place,
+        event: Event::Go {
+            id,
+            block: 0,
+            era: 1,
+            first,
+            bytes,
+        },
+    })?;
+    entries.push(Entry {
+        place: place + 1,
+        event: Event::Done { id },
+    })
+}
+
+/// Two writes of block 0, the first of which marks it, and a read.
+fn two_writes_and_a_read(alloc: Global) -> Result<Journal, Fail>
+    ensures { IfOk result (λ journal. TellsAllBytes journal.opening) }
+{
+    let id = CmdId { lane: 0, number: 0 };
+    let mut entries = EntryList::new(alloc);
+    entries.push(Entry {
+        place: 0,
+        event: Event::Tried {
+            id,
+            block: 0,
+            era: 1,
+        },
+    })?;
+    entries.push(Entry {
+        place: 1,
+        event: Event::Mark {
+            id,
+            block: 0,
+            era: 1,
+        },
+    })?;
+    write_sector(alloc, &mut entries, 2, 0, 0)?;
+    write_sector(alloc, &mut entries, 4, 1, 1)?;
+    entries.push(Entry {
+        place: 6,
+        event: Event::Read {
+            id: CmdId { lane: 0, number: 2 },
+            sector: 0,
+            bytes: Bytes::new(alloc),
+        },
+    })?;
+    Ok(Journal {
+        opening: small_opening(alloc)?,
+        entries,
+    })
+}
+
+#[test]
+fn plain_calls_tell_what_was_written(rt: HostRuntime) -> Result<(), Fail> {
+    let journal = two_writes_and_a_read(rt.alloc())?;
+    assert_eq!(rt; journal.entries.as_slice().len(), 7);
+    let content = content_at(rt.alloc(), &journal, 6, 0)?;
+    let mut expected = vec![in rt.alloc(); 170; 1024]?;
+    expected.extend_from_slice(vec![in rt.alloc(); 0; 3072]?.as_slice())?;
+    assert!(rt; content.as_slice() == expected.as_slice());
+    let changed = changed_since(rt.alloc(), &journal, 7, 1)?;
+    assert_eq!(rt; changed.as_slice().len(), 1);
+    assert!(rt; changed.as_slice()[0] == (0, 0));
+    let asked = asked_since(rt.alloc(), &journal, 7, 1)?;
+    assert_eq!(rt; asked.as_slice().len(), 1);
+    assert!(rt; asked.as_slice()[0] == (0, 0));
+    assert_eq!(rt;
+        asked_since(rt.alloc(), &journal, 0, 1)?.as_slice().len(),
+        0
+    );
+    assert_eq!(rt;
+        changed_since(rt.alloc(), &journal, 7, 2)?.as_slice().len(),
+        0
+    );
+    Ok(())
+}
