@@ -6,7 +6,7 @@ use Rattle.std.proofs.lemmas.List.Elements.{All-nil, All-cons, All-head, All-tai
 use Rattle.std.proofs.lemmas.Fmt.{decimal_by_steps, decimal_injective, length-decimal-le}
 use Rattle.hex.specs.Hex.{decode_of}
 use Rattle.hex.proofs.HexLemmas.{decode_of-ok, decode_of-same}
-use Rattle.era_plan.specs.Grammar.{HasNoSpace, HasPayload, Spells, SpellsWrite, SpellsRequest, payload_of_task}
+use Rattle.era_plan.specs.Grammar.{HasNoSpace, HasPayload, Spells, SpellsWrite, SpellsRequest}
 use Rattle.era_plan.specs.declared.task.Request.{Request}
 use Rattle.era_plan.specs.declared.task.Request.TheVariants.{Checkpoint, ListSince}
 use Rattle.era_plan.specs.declared.task.Task.{Task}
@@ -68,11 +68,11 @@ SpellsWrite-same line one other s t =
     ap (λ first. made first one.bytes) sector ∙ ap (λ written. made other.sector written) bytes
 
 -- the era of a line that spells a list
-pub spelled_era : (line word : List ℕ) (since : ℕ) → SpellsRequest line (ListSince since) → line ≡ codes "0 list " ++ word → word ≡ decimal since
+spelled_era : (line word : List ℕ) (since : ℕ) → SpellsRequest line (ListSince since) → line ≡ codes "0 list " ++ word → word ≡ decimal since
 spelled_era line word since s e = append_cancel_left (codes "0 list ") word (decimal since) (sym e ∙ s.0)
 
 -- two decimals of eras are those of one era
-pub eras_same : (one other : ℕ) → one < 2 ^ 32 → other < 2 ^ 32 → decimal one ≡ decimal other → one ≡ other
+eras_same : (one other : ℕ) → one < 2 ^ 32 → other < 2 ^ 32 → decimal one ≡ decimal other → one ≡ other
 eras_same one other small less e = decimal_injective one other (omega (arith, small)) (omega (arith, less)) e
 
 -- a checkpoint's line isn't a list's
@@ -91,7 +91,7 @@ SpellsRequest-same line (ListSince since) (ListSince other) s t =
     ap (λ era. ListSince era) (eras_same since other s.1 t.1 (spelled_era line (decimal since) other t s.0))
 
 -- a line that spells a write spells no request
-pub written_not_asked : (line : List ℕ) (write : Write) (request : Request) → SpellsWrite line write → SpellsRequest line request → ⊥
+written_not_asked : (line : List ℕ) (write : Write) (request : Request) → SpellsWrite line write → SpellsRequest line request → ⊥
 written_not_asked line write Checkpoint s t =
     let one : third line ≡ 119 = ap third s.text in
     let other : third line ≡ 99 = ap third t in
@@ -112,11 +112,6 @@ Spells-same line (Ask one) (Ask other) s t = ap (λ request. Ask request) (Spell
 pub HasPayload-spelled : (line : List ℕ) (task : Task) → Spells line task → HasPayload task
 HasPayload-spelled line (WriteTask write) s = s.payload
 HasPayload-spelled line (Ask request) s = tt
-
--- what a spelled task writes isn't too long
-pub payload_of_task-spelled : (line : List ℕ) (task : Task) → Spells line task → payload_of_task task ≤ 65536
-payload_of_task-spelled line (WriteTask write) s = s.payload.most
-payload_of_task-spelled line (Ask request) s = omega arith
 
 -- a line that spells a write isn't too long
 SpellsWrite-short : (line : List ℕ) (write : Write) → SpellsWrite line write → length line ≤ 131200

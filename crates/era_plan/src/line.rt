@@ -32,7 +32,8 @@ pub fn read_task(alloc: Global, line: &[u8]) -> Result<Option<Task>, Memory>
 // The request that a line spells.
 fn read_request(line: &[u8]) -> Option<Request>
     ensures some { IfSome result (SpellsRequest line.now) }
-    ensures none { IfNone result ((request : request_of_line) → SpellsRequest line.now request → ⊥) }
+    ensures none { IfNone result
+        ((request : request_of_line) → SpellsRequest line.now request → ⊥) }
 {
     if line == b"0 checkpoint".as_slice() {
         return Some(Request::Checkpoint);
