@@ -1,20 +1,20 @@
 -- The round that a text spells, and the first line that is refused.
 use Rattle.std.specs.Prelude.{◌≡◌, ℕ, ◌-◌, ◌<◌, ◌≤◌, List, ◌++◌, length, take, All, Option, Some, Result, Ok, Err}
 use Rattle.era_base.specs.Faults.{Rose}
-use Rattle.era_plan.specs.Grammar.{lines_of, line_before, SpellEach, IsPayload, payload_of}
-use Rattle.era_plan.specs.declared.round.Write.{Write}
+use Rattle.era_plan.specs.Grammar.{lines_of, line_before, SpellEach, HasPayload, payload_of}
+use Rattle.era_plan.specs.declared.task.Task.{Task}
 use Rattle.era_plan.specs.declared.round.LineKind.TheVariants.{NotYet}
 use Rattle.era_plan.specs.declared.round.PlanError.{PlanError}
 use Rattle.era_plan.specs.declared.round.PlanError.TheVariants.{Line, Source, Memory}
 
--- The limits of a round: at most 4,096 commands, 67,108,864 bytes together, and 1 to 128 whole sectors in each.
-pub record IsWithinLimits (commands : List Write) : Type 0 where
+-- The limits of a round: at most 4,096 commands, 67,108,864 bytes together, and 1 to 128 whole sectors in each write.
+pub record IsWithinLimits (commands : List Task) : Type 0 where
   pub count : length commands ≤ 4096
   pub payload : payload_of commands ≤ 67108864
-  pub sizes : All (λ command. IsPayload (length command.bytes)) commands
+  pub sizes : All HasPayload commands
 
 -- Lines spell a round: one command each, within the limits.
-pub record SpellRound (lines : List (List ℕ)) (commands : List Write) : Type 0 where
+pub record SpellRound (lines : List (List ℕ)) (commands : List Task) : Type 0 where
   pub each : SpellEach lines commands
   pub count : length commands ≤ 4096
   pub payload : payload_of commands ≤ 67108864
@@ -23,12 +23,12 @@ pub record SpellRound (lines : List (List ℕ)) (commands : List Write) : Type 0
 pub record IsFirstRefused (lines : List (List ℕ)) (number : ℕ) : Type 0 where
   pub some : 0 < number
   pub within : number ≤ length lines
-  pub commands : List Write
+  pub commands : List Task
   pub before : SpellRound (take (number - 1) lines) commands
-  pub refused : (more : List Write) → SpellRound (take number lines) more → ⊥
+  pub refused : (more : List Task) → SpellRound (take number lines) more → ⊥
 
 -- A text was read: its lines that have ended spell a round of these commands, and these bytes of the next line are there.
-pub record HasRead (text : List ℕ) (commands : List Write) (line : List ℕ) : Type 0 where
+pub record HasRead (text : List ℕ) (commands : List Task) (line : List ℕ) : Type 0 where
   pub ended : List (List ℕ)
   pub split : (rest : List ℕ) → lines_of (text ++ rest) ≡ ended ++ line_before line (lines_of rest)
   pub round : SpellRound ended commands
@@ -43,7 +43,7 @@ pub record LeftBehind (text whole : List ℕ) (now : Option (List ℕ)) : Type 0
 pub record IsReadInFront (whole : List ℕ) (now : Option (List ℕ)) : Type 0 where
   pub text : List ℕ
   pub behind : LeftBehind text whole now
-  pub commands : List Write
+  pub commands : List Task
   pub line : List ℕ
   pub read : HasRead text commands line
 

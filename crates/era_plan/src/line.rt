@@ -1,22 +1,53 @@
-//! One line of the stream, and the write that it spells.
+//! One line of the stream, and the task that it spells.
 
 ghost use Rattle.std.specs.Prelude.{◌≡◌, ◌≢◌, ◌↔◌, ℕ, ◌<◌, ◌^◌, List, ◌∷◌, ◌++◌, length, decimal, Ok, IsTrue, IfSome, IfNone, IfOk};
 ghost use Rattle.hex.specs.Hex.{decode_of};
-ghost use Rattle.era_plan.specs.Grammar.{IsPayload, HasNoSpace, Spells};
-ghost use Rattle.era_plan.specs.declared.round.Write.{Write as write_command};
+ghost use Rattle.era_plan.specs.Grammar.{IsPayload, HasNoSpace, Spells, SpellsRequest, SpellsWrite};
+ghost use Rattle.era_plan.specs.declared.task.Request.{Request as request_of_line};
+ghost use Rattle.era_plan.specs.declared.task.Task.{Task as task_of_line};
+ghost use Rattle.era_plan.specs.declared.task.Write.{Write as write_of_line};
 
-use crate::round::Write;
+use crate::task::{Request, Task, Write};
 use era_base::{Bytes, Memory};
 use hex::FromHexError;
 use itoa::Buffer;
 use std::alloc::Global;
 use std::str;
 
-/// The write that a line spells, or none where it spells none.
-pub fn read_write(alloc: Global, line: &[u8]) -> Result<Option<Write>, Memory>
+/// The task that a line spells, or none where it spells none.
+pub fn read_task(alloc: Global, line: &[u8]) -> Result<Option<Task>, Memory>
     ensures some { IfOk result (λ read. IfSome read (Spells line.now)) }
     ensures none { IfOk result (λ read.
-        IfNone read ((write : write_command) → Spells line.now write → ⊥)) }
+        IfNone read ((task : task_of_line) → Spells line.now task → ⊥)) }
+{
+    if let Some(request) = read_request(line) {
+        return Ok(Some(Task::Ask(request)));
+    }
+    let Some(write) = read_write(alloc, line)? else {
+        return Ok(None);
+    };
+    Ok(Some(Task::Write(write)))
+}
+
+// The request that a line spells.
+fn read_request(line: &[u8]) -> Option<Request>
+    ensures some { IfSome result (SpellsRequest line.now) }
+    ensures none { IfNone result
+        ((request : request_of_line) → SpellsRequest line.now request → ⊥) }
+{
+    if line == b"0 checkpoint".as_slice() {
+        return Some(Request::Checkpoint);
+    }
+    let word = line.strip_prefix(b"0 list ")?;
+    let since = read_era(word)?;
+    Some(Request::ListSince(since))
+}
+
+// The write that a line spells.
+fn read_write(alloc: Global, line: &[u8]) -> Result<Option<Write>, Memory>
+    ensures some { IfOk result (λ read. IfSome read (SpellsWrite line.now)) }
+    ensures none { IfOk result (λ read.
+        IfNone read ((write : write_of_line) → SpellsWrite line.now write → ⊥)) }
 {
     let Some(words) = line.strip_prefix(b"0 write ") else {
         return Ok(None);
@@ -42,6 +73,14 @@ fn split_word(text: &[u8]) -> Option<(&[u8], &[u8])>
     let at = text.iter().position(|byte| *byte == b' ')?;
     let (word, rest) = text.split_at(at);
     Some((word, rest.split_at(1).1))
+}
+
+// The era, a number below 2^32, of which this is the decimal without leading zeros.
+fn read_era(text: &[u8]) -> Option<u32>
+    ensures some { IfSome result (λ era. text.now ≡ decimal era) }
+    ensures none { IfNone result ((era : ℕ) → era < 2 ^ 32 → text.now ≢ decimal era) }
+{
+    u32::try_from(read_decimal(text)?).ok()
 }
 
 // The number below 2^64 of which this is the decimal without leading zeros.

@@ -1,12 +1,13 @@
 //! The reader: it takes a source's bytes up to the end or the first refused line.
 
 ghost use Rattle.std.specs.Prelude.{◌≡◌, ℕ, ◌+◌, ◌<◌, ◌≤◌, List, [], ◌∷◌, ◌++◌, length, vec_len, Some, IfOk, OnOk, IfErr};
-ghost use Rattle.era_plan.specs.Grammar.{lines_of, payload_of};
+ghost use Rattle.era_plan.specs.Grammar.{lines_of, payload_of, payload_of_task};
 ghost use Rattle.era_plan.specs.Rounds.{SpellRound, IsWithinLimits, HasRead, Refuses, FailsBehind, HasPlanCause};
 ghost use Rattle.era_plan.specs.Inside.{EndsLine, RefusesAt, IsOwn, RefusesLine, left_to_read};
 
-use crate::line::read_write;
+use crate::line::read_task;
 use crate::round::{CommandList, LineError, LineKind, PlanError, Round};
+use crate::task::Task;
 use era_base::{Memory, Source};
 use std::alloc::Global;
 
@@ -122,10 +123,10 @@ impl Reader {
         ensures line { OnOk result (self.new.line.items ≡ []) }
         ensures refused { IfErr result (RefusesLine self.old.commands self.old.line.items) }
     {
-        let Some(command) = read_write(alloc, self.line.as_slice())? else {
+        let Some(command) = read_task(alloc, self.line.as_slice())? else {
             return Err(self.refusal());
         };
-        let payload = self.payload + command.bytes.len();
+        let payload = self.payload + payload_of_command(&command);
         if self.commands.len() >= MOST_COMMANDS || payload > MOST_PAYLOAD {
             return Err(self.refusal());
         }
@@ -159,5 +160,15 @@ impl Reader {
             line: self.commands.len() as u32 + 1,
             kind: LineKind::NotYet,
         })
+    }
+}
+
+// How many bytes a command writes.
+fn payload_of_command(command: &Task) -> usize
+    ensures { result ≡ payload_of_task command.now }
+{
+    match command {
+        Task::Write(write) => write.bytes.len(),
+        Task::Ask(_) => 0,
     }
 }

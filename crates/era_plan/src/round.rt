@@ -2,29 +2,23 @@
 
 ghost use Rattle.std.specs.Prelude.{◌≡◌, ◌==◌, ℕ, List, [], ◌∷◌, ◌++◌, length, OnOk, OnErr};
 
-use era_base::{Bytes, Memory};
+use crate::task::Task;
+use era_base::Memory;
 use std::alloc::{AllocError, AllocFailed, Global};
 use std::marker::Model;
 use thiserror::Error;
 
-/// A write of whole sectors from a sector on.
-#[derive(Debug, Drop)]
-pub struct Write {
-    pub sector: u64,
-    pub bytes: Bytes,
-}
-
 /// Commands in the order of the input.
 #[derive(Debug, Drop)]
 pub struct CommandList {
-    items: Vec<Write>,
+    items: Vec<Task>,
 }
 
 impl Model for CommandList {
-    ghost use Rattle.era_plan.specs.declared.round.Write.{Write};
+    ghost use Rattle.era_plan.specs.declared.task.Task.{Task};
     ghost use Rattle.std.specs.Prelude.{List};
 
-    ghost Value = { List Write };
+    ghost Value = { List Task };
 
     ghost view = { λ c. c.items.items };
 }
@@ -40,7 +34,7 @@ impl CommandList {
     }
 
     /// Adds a command behind the others.
-    pub fn push(&mut self, command: Write) -> Result<(), Memory>
+    pub fn push(&mut self, command: Task) -> Result<(), Memory>
         ensures ok { OnOk result (self.new ≡ self.old ++ command ∷ []) }
         ensures err { OnErr result (self.new ≡ self.old) }
     {
@@ -63,7 +57,7 @@ impl CommandList {
     }
 
     /// The commands as a slice.
-    pub fn as_slice(&self) -> &[Write]
+    pub fn as_slice(&self) -> &[Task]
         ensures { result.now ≡ self.now }
     {
         self.items.as_slice()

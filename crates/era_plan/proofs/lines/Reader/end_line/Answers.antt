@@ -1,6 +1,6 @@
 use Rattle.std.proofs.Common.{◌≡◌, subst, arith, ⊎_elim}
 use Rattle.era_plan.specs.Inside.{FitsBehind}
-use Rattle.era_plan.specs.declared.round.Write.{Write}
+use Rattle.era_plan.specs.declared.task.Task.{Task}
 use Rattle.era_plan.proofs.Spelling.{Spells-same}
 use Rattle.era_plan.proofs.ReadSteps.{refusal_of_line}
 use Rattle.era_plan.proofs.lines.Reader.end_line.Goals as goal
@@ -20,6 +20,6 @@ returns-then-len-ge-MOST_COMMANDS-clause-refused c =
     refusal_of_line c.refusal-then-len-ge-MOST_COMMANDS.result commands line c.refusal-then-len-ge-MOST_COMMANDS.ensures
     (λ command spelled fits.
     let same : command ≡ c.in-Some.command = Spells-same line command c.in-Some.command spelled here in
-    let fit = subst (λ (write : Write). FitsBehind commands write) same fits in
+    let fit = subst (λ (task : Task). FitsBehind commands task) same fits in
     let bytes = c.len.ensures in
     ⊎_elim (λ many. omega (arith, fit.count)) (λ much. omega (arith, fit.payload, c.args.self.now.counted)) c.then-len-ge-MOST_COMMANDS.either)
