@@ -1,11 +1,13 @@
 -- Histories that the machine makes by a list of steps.
-use Rattle.std.specs.Prelude.{◌≡◌, List, [], ◌∷◌}
+use Rattle.std.specs.Prelude.{◌≡◌, true, List, [], ◌∷◌}
 use Rattle.era_model.specs.declared.event.Event.{Event}
 use Rattle.era_model.specs.declared.event.Event.TheVariants.{Kept}
 use Rattle.era_model.specs.declared.history.Happening.{Happening}
 use Rattle.era_model.specs.declared.history.Happening.TheVariants.{Opened, Happened, Crashed}
 use Rattle.era_model.specs.declared.opening.Opening.{Opening}
-use Rattle.era_model.specs.Legal.{IsOpening}
+use Rattle.era_model.specs.Chains.{IsMoment}
+use Rattle.era_model.specs.History.{is_open}
+use Rattle.era_model.specs.Legal.{IsLegal, IsOpening}
 use Rattle.era_core.specs.declared.step.Step.{Step}
 use Rattle.era_core.specs.Machine.{CoreState, Run, opened_core}
 
@@ -26,6 +28,10 @@ session_of [] = []
 session_of (Opened opening ∷ earlier) = Opened opening ∷ []
 session_of (Happened event ∷ earlier) = Happened event ∷ session_of earlier
 session_of (Crashed images ∷ earlier) = Crashed images ∷ session_of earlier
+
+-- At every moment of the history at which a session is open, that session is legal by itself.
+abbrev pub HasLegalSessions : List Happening → Type 0
+HasLegalSessions h = (moment : List Happening) → IsMoment h moment → is_open moment ≡ true → IsLegal (session_of moment)
 
 -- Steps that the machine accepts one after another, from the opening of a first session on, and the core that they lead to.
 pub record IsSchedule (opening : Opening) (steps : List Step) (last : CoreState) : Type 0 where

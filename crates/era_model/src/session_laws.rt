@@ -1,25 +1,22 @@
 //! What holds over all sessions in a row, with their crashes and reopenings. The functions do nothing; their clauses
 //! are the laws.
 
-ghost use Rattle.std.specs.Prelude.{◌≡◌, ◌++◌, ℕ, ◌<◌, ◌≤◌, List, [], ◌∷◌, Option, Some, max, replicate, true};
+ghost use Rattle.std.specs.Prelude.{◌≡◌, ◌++◌, ℕ, List, [], ◌∷◌, Option, Some, replicate, true};
 ghost use Rattle.era_model.specs.Chains.{IsMoment, IsSessionChain};
-ghost use Rattle.era_model.specs.Changed.{CoversChanges, IsCrashContent, ListsChanges};
 ghost use Rattle.era_model.specs.Crashes.{MayCrash, MayEnd};
 ghost use Rattle.era_model.specs.Digest.{digest_of, digested};
-ghost use Rattle.era_model.specs.History.{blocks_at, blocks_now, content, is_open};
+ghost use Rattle.era_model.specs.History.{content, is_open};
 ghost use Rattle.era_model.specs.Legal.{IsLegal};
-ghost use Rattle.era_model.specs.Marking.{asked_since, held_of, marks_of};
-ghost use Rattle.era_model.specs.Marks.{BlockMarks, marks_last_era, rolled, written_since};
+ghost use Rattle.era_model.specs.Marking.{held_of, marks_of};
+ghost use Rattle.era_model.specs.Marks.{BlockMarks, marks_last_era, rolled};
 ghost use Rattle.era_model.specs.Merging.{merged_marks};
-ghost use Rattle.era_model.specs.Promises.{KeepsLastEras, MarksFollowJournal};
-ghost use Rattle.era_model.specs.Recovered.{IsDurableFrom, IsRecoveredFrom};
+ghost use Rattle.era_model.specs.Promises.{CoverageGoesOn, KeepsLastEras, MarksFollowJournal, NoChangedBlockMissed, NoUnaskedBlockListed};
+ghost use Rattle.era_model.specs.Recovered.{IsDurableFrom};
 ghost use Rattle.era_model.specs.Rows.{sector_of};
 ghost use Rattle.era_model.specs.RowsOfCrashes.{crash_images, crashed_session, reopened_history, reopened_journal};
 ghost use Rattle.era_model.specs.Validity.{AreValidMarks};
-ghost use Rattle.era_model.specs.declared.history.Happening.TheVariants.{Opened};
 ghost use Rattle.era_model.specs.declared.history.Happening.{Happening};
 ghost use Rattle.era_model.specs.declared.history.Images.{Images};
-ghost use Rattle.era_model.specs.declared.opening.Opening.{Opening};
 
 /// Each moment of a legal history is legal.
 pub fn moments_are_legal()
@@ -42,29 +39,19 @@ pub fn marks_follow_journal()
 /// Over all sessions, at every moment: all marks that may be recovered list each block that has changed since an era,
 /// whatever a crash may leave of it.
 pub fn no_changed_block_missed()
-    ensures { (h moment : List Happening) (m : BlockMarks) (found : Option BlockMarks) (era : ℕ)
-        → IsLegal h → IsMoment h moment → IsRecoveredFrom moment m found → ListsChanges moment m era }
+    ensures { (h : List Happening) → IsLegal h → NoChangedBlockMissed h }
 {}
 
 /// Over all sessions, at every moment: each block that marks list since an era, if they may be recovered, was asked to
 /// be marked in that era or a later one, or the marks of the first opening listed it.
 pub fn no_unasked_block_listed()
-    ensures { (h moment : List Happening) (m : BlockMarks) (found : Option BlockMarks) (era block : ℕ)
-        → IsLegal h → IsMoment h moment → IsRecoveredFrom moment m found
-        → written_since m era block ≡ true → asked_since moment era block ≡ true }
+    ensures { (h : List Happening) → IsLegal h → NoUnaskedBlockListed h }
 {}
 
 /// Where the marks of an opening cover its contents from a base, since an era that has begun, all marks that may be
 /// recovered at a later moment, also of a later session, cover all contents that a crash may leave then.
 pub fn coverage_goes_on()
-    ensures { (h moment earlier : List Happening) (opening : Opening) (m : BlockMarks)
-        (found : Option BlockMarks) (era : ℕ) (base contents : ℕ → List ℕ)
-        → IsLegal h → IsMoment h moment → IsMoment moment (Opened opening ∷ earlier)
-        → max era 1 ≤ opening.era
-        → CoversChanges opening.marks (blocks_at opening) era base (content (Opened opening ∷ earlier))
-        → IsRecoveredFrom moment m found
-        → ((block : ℕ) → block < blocks_now moment → IsCrashContent moment block (contents block))
-        → CoversChanges m (blocks_now moment) era base contents }
+    ensures { (h : List Happening) → IsLegal h → CoverageGoesOn h }
 {}
 
 /// What the end of a session may leave, a crash may leave as well.

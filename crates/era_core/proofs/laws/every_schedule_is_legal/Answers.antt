@@ -16,8 +16,9 @@ pub returns : goal.returns
 returns c = record {
   step = accepted-legal;
   legal = schedule-legal;
-  sessions = λ opening steps last moment schedule is open_now.
+  sessions = λ opening steps last schedule moment is open_now.
       alone-legal c.marks_follow_journal.ensures.journal moment (c.moments_are_legal.ensures last.history moment (schedule-legal opening steps last schedule) is) open_now;
-  missed = λ opening steps last moment m found era schedule. c.no_changed_block_missed.ensures last.history moment m found era (schedule-legal opening steps last schedule);
-  asked = λ opening steps last moment m found era block schedule. c.no_unasked_block_listed.ensures last.history moment m found era block (schedule-legal opening steps last schedule);
+  missed = λ opening steps last schedule. c.no_changed_block_missed.ensures last.history (schedule-legal opening steps last schedule);
+  asked = λ opening steps last schedule. c.no_unasked_block_listed.ensures last.history (schedule-legal opening steps last schedule);
+  covered = λ opening steps last schedule. c.coverage_goes_on.ensures last.history (schedule-legal opening steps last schedule);
 }
