@@ -8,7 +8,7 @@ use Rattle.era_base.specs.declared.geometry.Geometry.{Geometry}
 use Rattle.era_base.specs.Bytes.{splice, part}
 use Rattle.era_base.specs.CrashModel.{State}
 use Rattle.era_model.specs.Writes.{block_bytes}
-use Rattle.era_plan.specs.declared.round.Write.{Write}
+use Rattle.era_plan.specs.declared.task.Write.{Write}
 use Rattle.era_top.specs.Steps.{IsPlaced, IsTorn}
 use Rattle.era_top.proofs.Splices.{part-other, part-same, part-agrees, part-past}
 

@@ -2,6 +2,7 @@
 use Rattle.std.proofs.Common.{◌≡◌, ◌⊎◌, inl, inr, ℕ, ◌<◌, ◌≤◌, List, [], refl, ap, sym, ◌∙◌, subst, arith}
 use Rattle.std.specs.Prelude.{Option, Some}
 use Rattle.era_base.specs.declared.geometry.GeomError.{GeomError}
+use Rattle.era_base.specs.declared.geometry.Geometry.{Geometry}
 use Rattle.era_base.specs.declared.geometry.GeomError.TheVariants.{BadBlockSize, NoBlocks, TooManyBlocks}
 use Rattle.era_base.specs.Faults.{Rose, NoneRose}
 use Rattle.era_base.specs.Geometry.{IsBlockSize, blocks_of}
@@ -76,18 +77,18 @@ refusal-never D words bay left (TooSmall have need) servable refusing cause =
     omega (arith, same.sectors, cause.0.4, cause.1)
 
 -- a stream whose lines spell a round isn't refused
-pub session-never : (words : List (List ℕ)) (sizes : List ℕ → Option ℕ) (left : Option (List ℕ)) (around : Around) (session : Session) (ended : Status)
-    → around.left ≡ left → IsServable words sizes left → IsRefusing ended → EndsBy around session ended → ⊥
-session-never words sizes left around session Done is servable refusing cause = refusing
-session-never words sizes left around session Usage is servable refusing cause = cause
-session-never words sizes left around session Line is servable refusing cause =
+pub session-never : (words : List (List ℕ)) (sizes : List ℕ → Option ℕ) (left : Option (List ℕ)) (g : Geometry) (around : Around) (session : Session) (ended : Status)
+    → around.left ≡ left → IsServable words sizes left → IsRefusing ended → EndsBy g around session ended → ⊥
+session-never words sizes left g around session Done is servable refusing cause = refusing
+session-never words sizes left g around session Usage is servable refusing cause = cause
+session-never words sizes left g around session Line is servable refusing cause =
     let first = cause.1.2 servable.text (is ∙ servable.stream) in
-    first.refused _ (SpellRound-take cause.1.0 (lines_of servable.text) servable.writes servable.spelled)
-session-never words sizes left around session Fault is servable refusing cause = refusing
-session-never words sizes left around session Memory is servable refusing cause = refusing
-session-never words sizes left around session Refused is servable refusing cause = cause
-session-never words sizes left around session Source is servable refusing cause = refusing
-session-never words sizes left around session Sink is servable refusing cause = refusing
+    first.refused _ (SpellRound-take cause.1.0 (lines_of servable.text) servable.tasks servable.spelled)
+session-never words sizes left g around session Fault is servable refusing cause = refusing
+session-never words sizes left g around session Memory is servable refusing cause = refusing
+session-never words sizes left g around session Refused is servable refusing cause = cause
+session-never words sizes left g around session Source is servable refusing cause = refusing
+session-never words sizes left g around session Sink is servable refusing cause = refusing
 
 -- no right report refuses it
 pub report-never : (D : Type 0) (words : List (List ℕ)) (contents : List ℕ) (disks : DiskFacts D) (bay : BayAround D) (streams : StreamsAround)
@@ -96,7 +97,7 @@ pub report-never : (D : Type 0) (words : List (List ℕ)) (contents : List ℕ) 
 report-never D words contents disks bay streams (Refuses refusal) ended servable refusing right =
     refusal-never D words bay streams.left refusal servable (subst IsRefusing right.0 refusing) right.1
 report-never D words contents disks bay streams (Serves session) ended servable refusing right =
-    session-never words bay.sizes streams.left _ session ended refl servable refusing right.cause
+    session-never words bay.sizes streams.left right.geometry _ session ended refl servable refusing right.cause
 
 -- so no call that reports is refusing
 pub status-never : (D : Type 0) (words : List (List ℕ)) (contents : List ℕ) (disks : DiskFacts D) (bay : BayAround D) (streams : StreamsAround)

@@ -1,63 +1,91 @@
 -- What the journal of a run tells: its replies are those of the outcomes, and its commands are a run.
-use Rattle.std.proofs.Common.{◌≡◌, ◌≢◌, ℕ, ◌+◌, ◌/◌, true, false, List, [], ◌∷◌, ◌++◌, length, Option, Some, None, refl, ap, sym, ◌∙◌, subst, ap₂, inl, inr}
+use Rattle.std.proofs.Common.{◌≡◌, ◌≢◌, ◌⊎◌, ℕ, ◌+◌, ◌/◌, true, false, ◌||◌, List, [], ◌∷◌, ◌++◌, length, Option, Some, None, refl, ap, sym, ◌∙◌, subst, ap₂, inl, inr}
+use Rattle.std.specs.List.{list_any}
 use Rattle.era_base.specs.Geometry.{place_at}
 use Rattle.era_base.specs.declared.geometry.Geometry.{Geometry}
 use Rattle.era_model.specs.declared.event.Event.{Event}
 use Rattle.era_model.specs.declared.event.Event.TheVariants.{Tried, Mark, Go, Done as DoneEvent, Cut as CutEvent}
 use Rattle.era_model.specs.declared.history.Happening.{Happening}
-use Rattle.era_model.specs.CommandEvents.{AreWriteEvents, IsOutcome, IsTriedWrite}
-use Rattle.era_model.specs.Commands.{events_of}
+use Rattle.era_model.specs.CommandEvents.{AreCheckpointEvents, AreWriteEvents, IsOutcome, IsTriedWrite}
+use Rattle.era_model.specs.Commands.{events_of, answer_of}
 use Rattle.era_model.specs.History.{at_opening}
 use Rattle.era_model.specs.Journal.{session_opening}
-use Rattle.era_model.specs.SessionRun.{HaveTheirEvents, place_now, without_places}
+use Rattle.era_model.specs.SessionRun.{AreListEvents, AreTaskEvents, HaveTheirEvents, place_now, without_places}
 use Rattle.era_model.specs.Transcript.{reply_line, replies_text}
-use Rattle.era_plan.specs.declared.round.Write.{Write}
+use Rattle.era_plan.specs.declared.task.Request.TheVariants.{Checkpoint, ListSince}
+use Rattle.era_plan.specs.declared.task.Task.{Task}
+use Rattle.era_plan.specs.declared.task.Task.TheVariants.{Write as WriteTask, Ask}
+use Rattle.era_plan.specs.declared.task.Write.{Write}
+use Rattle.era_plan.specs.ModelRounds.{model_task}
 use Rattle.era_top.specs.declared.outcome.Outcome.{Outcome}
-use Rattle.era_top.specs.declared.outcome.Outcome.TheVariants.{OutOfRange, Done, Cut}
-use Rattle.era_top.specs.Outcomes.{WriteAtBlock, event_count, ended_events, outcome_events, outcome_line, outcomes_text}
-use Rattle.era_top.specs.Runs.{lane_zero, commands_from, place_of_write, FitsPlace, events_at, AreAnswered}
+use Rattle.era_top.specs.declared.outcome.Outcome.TheVariants.{OutOfRange, Done, Cut, Moved, LastEra, Listed, NoMemory}
+use Rattle.era_top.specs.Outcomes.{EventSubject, era_after, event_count, ended_events, is_issued, lacks_memory, outcome_events, outcome_line, outcomes_text}
+use Rattle.era_top.specs.Runs.{lane_zero, commands_from, place_of_write, some_lack, subject_of, subject_of_write, FitsList, FitsPlace, FitsTask, AreAnswered}
+use Rattle.era_top.specs.Sessions.{says_memory, some_says_memory}
 use Rattle.era_top.proofs.Journals.{at_opening-known}
 
--- a reply doesn't depend on which write it is
-reply-any : (write : WriteAtBlock) (line start : ℕ) (outcome : Outcome) → reply_line line (outcome_events write start outcome) ≡ outcome_line line start outcome
-reply-any write line start OutOfRange = refl
-reply-any write line start (Done true) = refl
-reply-any write line start (Done false) = refl
-reply-any write line start (Cut true faults) = refl
-reply-any write line start (Cut false faults) = refl
+-- a reply doesn't depend on what the events name
+reply-any : (subject : EventSubject) (line start : ℕ) (outcome : Outcome) → reply_line line (outcome_events subject start outcome) ≡ outcome_line line start outcome
+reply-any subject line start OutOfRange = refl
+reply-any subject line start (Done true) = refl
+reply-any subject line start (Done false) = refl
+reply-any subject line start (Cut true faults) = refl
+reply-any subject line start (Cut false faults) = refl
+reply-any subject line start (Moved era) = refl
+reply-any subject line start LastEra = refl
+reply-any subject line start (Listed blocks) = refl
+reply-any subject line start NoMemory = refl
 
-reply-placed : (number line start : ℕ) (write : Write) (place : Option (ℕ × ℕ)) (outcome : Outcome) → FitsPlace place outcome → reply_line line (events_at number write place start outcome) ≡ outcome_line line start outcome
-reply-placed number line start write None outcome fits = ap (λ o. outcome_line line start o) (sym fits)
-reply-placed number line start write (Some place) outcome fits = reply-any _ line start outcome
-
--- the replies to writes that have the events of their outcomes are those of the outcomes
-pub answered-replies : (g : Geometry) (h : List Happening) (number start : ℕ) (writes : List Write) (outcomes : List Outcome) (next : ℕ) → AreAnswered g h number start writes outcomes next → replies_text h (commands_from number writes) ≡ outcomes_text (number + 1) start outcomes
-answered-replies g h number start [] [] next answered = refl
-answered-replies g h number start [] (outcome ∷ outcomes) next answered = absurd answered
-answered-replies g h number start (write ∷ writes) [] next answered = absurd answered
-answered-replies g h number start (write ∷ writes) (outcome ∷ outcomes) next answered =
+-- the replies to commands that have the events of their outcomes are those of the outcomes
+pub answered-replies : (g : Geometry) (h : List Happening) (number era start : ℕ) (tasks : List Task) (outcomes : List Outcome) (next : ℕ) → AreAnswered g h number era start tasks outcomes next → replies_text h (commands_from number tasks) ≡ outcomes_text (number + 1) start outcomes
+answered-replies g h number era start [] [] next answered = refl
+answered-replies g h number era start [] (outcome ∷ outcomes) next answered = absurd answered
+answered-replies g h number era start (task ∷ tasks) [] next answered = absurd answered
+answered-replies g h number era start (task ∷ tasks) (outcome ∷ outcomes) next answered =
     ap₂ (λ first rest. first ++ rest)
     (ap (λ events. reply_line (number + 1) events) answered.1
-    ∙ reply-placed number (number + 1) start write (place_of_write g write) outcome answered.0)
-    (answered-replies g h (number + 1) (start + event_count outcome) writes outcomes next answered.2)
+    ∙ reply-any (subject_of g number era task) (number + 1) start outcome)
+    (answered-replies g h (number + 1) (era_after era outcome) (start + event_count outcome) tasks outcomes next answered.2)
 
-issued-without_mark : (h : List Happening) (write : WriteAtBlock) (start : ℕ) (ended : Event) → IsOutcome write.id ended → IsTriedWrite h write.id write.block write.first write.bytes (without_places (ended_events false write start ended))
-issued-without_mark h write start ended ends = record {
+-- the answer to a command says that memory was refused exactly where its outcome does
+answer-lacks : (subject : EventSubject) (start : ℕ) (outcome : Outcome) → says_memory (answer_of (outcome_events subject start outcome)) ≡ lacks_memory outcome
+answer-lacks subject start OutOfRange = refl
+answer-lacks subject start (Done true) = refl
+answer-lacks subject start (Done false) = refl
+answer-lacks subject start (Cut true faults) = refl
+answer-lacks subject start (Cut false faults) = refl
+answer-lacks subject start (Moved era) = refl
+answer-lacks subject start LastEra = refl
+answer-lacks subject start (Listed blocks) = refl
+answer-lacks subject start NoMemory = refl
+
+-- memory was refused for a command exactly where an outcome says so
+pub answered-lack : (g : Geometry) (h : List Happening) (number era start : ℕ) (tasks : List Task) (outcomes : List Outcome) (next : ℕ) → AreAnswered g h number era start tasks outcomes next → some_says_memory h (commands_from number tasks) ≡ some_lack outcomes
+answered-lack g h number era start [] [] next answered = refl
+answered-lack g h number era start [] (outcome ∷ outcomes) next answered = absurd answered
+answered-lack g h number era start (task ∷ tasks) [] next answered = absurd answered
+answered-lack g h number era start (task ∷ tasks) (outcome ∷ outcomes) next answered =
+    ap₂ (λ first rest. first || rest)
+    (ap (λ events. says_memory (answer_of events)) answered.1 ∙ answer-lacks (subject_of g number era task) start outcome)
+    (answered-lack g h (number + 1) (era_after era outcome) (start + event_count outcome) tasks outcomes next answered.2)
+
+issued-without_mark : (h : List Happening) (subject : EventSubject) (start : ℕ) (ended : Event) → IsOutcome subject.id ended → IsTriedWrite h subject.id subject.block subject.first subject.bytes (without_places (ended_events false subject start ended))
+issued-without_mark h subject start ended ends = record {
   before = [];
   settled = inl refl;
-  rest = Go write.id write.block 1 write.first write.bytes ∷ ended ∷ [];
-  outcome = inr (inr (record { era = 1; mark = []; marking = inl refl; ended = ended; outcome = ends; joined = refl }));
+  rest = Go subject.id subject.block subject.era subject.first subject.bytes ∷ ended ∷ [];
+  outcome = inr (inr (record { era = subject.era; mark = []; marking = inl refl; ended = ended; outcome = ends; joined = refl }));
   joined = refl;
 }
 
-issued-with_mark : (h : List Happening) (write : WriteAtBlock) (start : ℕ) (ended : Event) → IsOutcome write.id ended → IsTriedWrite h write.id write.block write.first write.bytes (without_places (ended_events true write start ended))
-issued-with_mark h write start ended ends = record {
+issued-with_mark : (h : List Happening) (subject : EventSubject) (start : ℕ) (ended : Event) → IsOutcome subject.id ended → IsTriedWrite h subject.id subject.block subject.first subject.bytes (without_places (ended_events true subject start ended))
+issued-with_mark h subject start ended ends = record {
   before = [];
   settled = inl refl;
-  rest = Tried write.id write.block 1 ∷ Mark write.id write.block 1 ∷ Go write.id write.block 1 write.first write.bytes ∷ ended ∷ [];
+  rest = Tried subject.id subject.block subject.era ∷ Mark subject.id subject.block subject.era ∷ Go subject.id subject.block subject.era subject.first subject.bytes ∷ ended ∷ [];
   outcome = inr (inr (record {
-    era = 1;
-    mark = Tried write.id write.block 1 ∷ Mark write.id write.block 1 ∷ [];
+    era = subject.era;
+    mark = Tried subject.id subject.block subject.era ∷ Mark subject.id subject.block subject.era ∷ [];
     marking = inr refl;
     ended = ended;
     outcome = ends;
@@ -66,26 +94,54 @@ issued-with_mark h write start ended ends = record {
   joined = refl;
 }
 
-events-at_block : (h : List Happening) (write : WriteAtBlock) (start : ℕ) (outcome : Outcome) → outcome ≢ OutOfRange → IsTriedWrite h write.id write.block write.first write.bytes (without_places (outcome_events write start outcome))
-events-at_block h write start OutOfRange issued = absurd (issued refl)
-events-at_block h write start (Done true) issued = issued-with_mark h write start (DoneEvent write.id) (inl refl)
-events-at_block h write start (Done false) issued = issued-without_mark h write start (DoneEvent write.id) (inl refl)
-events-at_block h write start (Cut true faults) issued = issued-with_mark h write start (CutEvent write.id faults) (inr (faults, refl))
-events-at_block h write start (Cut false faults) issued = issued-without_mark h write start (CutEvent write.id faults) (inr (faults, refl))
+events-at_block : (h : List Happening) (subject : EventSubject) (start : ℕ) (outcome : Outcome) → is_issued outcome ≡ true → IsTriedWrite h subject.id subject.block subject.first subject.bytes (without_places (outcome_events subject start outcome))
+events-at_block h subject start OutOfRange issued = absurd (cc)
+events-at_block h subject start (Done true) issued = issued-with_mark h subject start (DoneEvent subject.id) (inl refl)
+events-at_block h subject start (Done false) issued = issued-without_mark h subject start (DoneEvent subject.id) (inl refl)
+events-at_block h subject start (Cut true faults) issued = issued-with_mark h subject start (CutEvent subject.id faults) (inr (faults, refl))
+events-at_block h subject start (Cut false faults) issued = issued-without_mark h subject start (CutEvent subject.id faults) (inr (faults, refl))
+events-at_block h subject start (Moved era) issued = absurd (cc)
+events-at_block h subject start LastEra issued = absurd (cc)
+events-at_block h subject start (Listed blocks) issued = absurd (cc)
+events-at_block h subject start NoMemory issued = absurd (cc)
 
-events-placed : (h : List Happening) (number start : ℕ) (write : Write) (place : Option (ℕ × ℕ)) (outcome : Outcome) → FitsPlace place outcome → AreWriteEvents h (lane_zero number) write.bytes place (without_places (events_at number write place start outcome))
-events-placed h number start write None outcome fits = refl
-events-placed h number start write (Some place) outcome fits = inr (events-at_block h (record { id = lane_zero number; block = place.0; first = place.1; bytes = write.bytes }) start outcome fits)
+events-placed : (h : List Happening) (number era start : ℕ) (write : Write) (place : Option (ℕ × ℕ)) (outcome : Outcome) → FitsPlace place outcome → AreWriteEvents h (lane_zero number) write.bytes place (without_places (outcome_events (subject_of_write number era write place) start outcome))
+events-placed h number era start write None outcome fits =
+    ap (λ o. without_places (outcome_events (subject_of_write number era write None) start o)) fits
+events-placed h number era start write (Some place) outcome fits = inr (events-at_block h (subject_of_write number era write (Some place)) start outcome fits)
 
--- each of the writes that have the events of their outcomes has events that a write may have
-pub answered-events : (g : Geometry) (contents : List ℕ) (h : List Happening) (number start : ℕ) (writes : List Write) (outcomes : List Outcome) (next : ℕ) → at_opening None (λ opening. Some opening) h ≡ Some (session_opening g contents) → AreAnswered g h number start writes outcomes next → HaveTheirEvents h (commands_from number writes)
-answered-events g contents h number start [] outcomes next opened answered = tt
-answered-events g contents h number start (write ∷ writes) [] next opened answered = absurd answered
-answered-events g contents h number start (write ∷ writes) (outcome ∷ outcomes) next opened answered =
+checkpoint-events : (g : Geometry) (h : List Happening) (number era start : ℕ) (outcome : Outcome) → (outcome ≡ Moved (era + 1)) ⊎ (outcome ≡ LastEra) → AreCheckpointEvents h (lane_zero number) (without_places (outcome_events (subject_of g number era (Ask Checkpoint)) start outcome))
+checkpoint-events g h number era start outcome (inl moved) =
+    rw moved (record { before = []; resolutions = tt; rest = _; outcome = inl (era + 1, refl); joined = refl })
+checkpoint-events g h number era start outcome (inr last) =
+    rw last (record { before = []; resolutions = tt; rest = _; outcome = inr (inr (inr (inl refl))); joined = refl })
+
+list-events : (g : Geometry) (number era start since : ℕ) (outcome : Outcome) → FitsList outcome → AreListEvents (lane_zero number) since false (without_places (outcome_events (subject_of g number era (Ask (ListSince since))) start outcome))
+list-events g number era start since OutOfRange fits = absurd fits
+list-events g number era start since (Done marks) fits = absurd fits
+list-events g number era start since (Cut marks faults) fits = absurd fits
+list-events g number era start since (Moved next) fits = absurd fits
+list-events g number era start since LastEra fits = absurd fits
+list-events g number era start since (Listed blocks) fits = inl (blocks, refl)
+list-events g number era start since NoMemory fits = inr (inr (inl refl))
+
+-- a command that has the events of its outcome has events that it may have
+task-events : (g : Geometry) (contents : List ℕ) (h : List Happening) (number era start : ℕ) (task : Task) (outcome : Outcome) → at_opening None (λ opening. Some opening) h ≡ Some (session_opening g contents) → FitsTask g era task outcome
+    → AreTaskEvents h (lane_zero number) (model_task task) (without_places (outcome_events (subject_of g number era task) start outcome))
+task-events g contents h number era start (WriteTask write) outcome opened fits =
     let placed : place_now h write.sector (length write.bytes / 512) ≡ place_of_write g write
-    = at_opening-known None (λ opening. place_at opening.geometry.sectors opening.geometry.block_sectors write.sector (length write.bytes / 512)) (session_opening g contents) h opened in (
-      subst (λ place. AreWriteEvents h (lane_zero number) write.bytes place (without_places (events_of h (lane_zero number)))) (sym placed)
-          (subst (λ events. AreWriteEvents h (lane_zero number) write.bytes (place_of_write g write) (without_places events)) (sym answered.1)
-          (events-placed h number start write (place_of_write g write) outcome answered.0)),
-      answered-events g contents h (number + 1) (start + event_count outcome) writes outcomes next opened answered.2,
-    )
+    = at_opening-known None (λ opening. place_at opening.geometry.sectors opening.geometry.block_sectors write.sector (length write.bytes / 512)) (session_opening g contents) h opened in
+    subst (λ place. AreWriteEvents h (lane_zero number) write.bytes place (without_places (outcome_events (subject_of_write number era write (place_of_write g write)) start outcome))) (sym placed)
+    (events-placed h number era start write (place_of_write g write) outcome fits)
+task-events g contents h number era start (Ask Checkpoint) outcome opened fits = checkpoint-events g h number era start outcome fits
+task-events g contents h number era start (Ask (ListSince since)) outcome opened fits = list-events g number era start since outcome fits
+
+-- each of the commands that have the events of their outcomes has events that it may have
+pub answered-events : (g : Geometry) (contents : List ℕ) (h : List Happening) (number era start : ℕ) (tasks : List Task) (outcomes : List Outcome) (next : ℕ) → at_opening None (λ opening. Some opening) h ≡ Some (session_opening g contents) → AreAnswered g h number era start tasks outcomes next → HaveTheirEvents h (commands_from number tasks)
+answered-events g contents h number era start [] outcomes next opened answered = tt
+answered-events g contents h number era start (task ∷ tasks) [] next opened answered = absurd answered
+answered-events g contents h number era start (task ∷ tasks) (outcome ∷ outcomes) next opened answered = (
+  subst (λ events. AreTaskEvents h (lane_zero number) (model_task task) (without_places events)) (sym answered.1)
+      (task-events g contents h number era start task outcome opened answered.0),
+  answered-events g contents h (number + 1) (era_after era outcome) (start + event_count outcome) tasks outcomes next opened answered.2,
+)

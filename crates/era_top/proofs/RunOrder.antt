@@ -7,18 +7,18 @@ use Rattle.era_model.specs.declared.event.Event.{Event}
 use Rattle.era_model.specs.declared.event.Event.TheVariants.{Tried, Mark, Go}
 use Rattle.era_model.specs.declared.history.Happening.{Happening}
 use Rattle.era_model.specs.declared.history.Happening.TheVariants.{Opened}
-use Rattle.era_model.specs.Commands.{Command, WriteAt, events_of}
+use Rattle.era_model.specs.Commands.{Command, events_of}
 use Rattle.era_model.specs.Journal.{session_opening}
 use Rattle.era_model.specs.Legal.{IsLegal}
 use Rattle.era_model.specs.Marks.{no_marks}
 use Rattle.era_model.specs.SessionRun.{AreAllDrawnBy, HaveTheirEvents, AllBefore, IsBefore, StandsBefore, KeepsLanes, IsRun}
 use Rattle.era_model.specs.Transcript.{replies_text}
 use Rattle.era_model.specs.Validity.{AreValidMarks}
-use Rattle.era_plan.specs.declared.round.Write.{Write}
+use Rattle.era_plan.specs.declared.task.Task.{Task}
 use Rattle.era_top.specs.declared.outcome.Outcome.{Outcome}
-use Rattle.era_top.specs.declared.outcome.Outcome.TheVariants.{OutOfRange, Done, Cut}
-use Rattle.era_top.specs.Outcomes.{WriteAtBlock, event_count, ended_events, outcome_events, outcomes_text}
-use Rattle.era_top.specs.Runs.{lane_zero, commands_from, place_of_write, events_at, AreAnswered, IsJournalOf}
+use Rattle.era_top.specs.declared.outcome.Outcome.TheVariants.{OutOfRange, Done, Cut, Moved, LastEra, Listed, NoMemory}
+use Rattle.era_top.specs.Outcomes.{EventSubject, era_after, event_count, ended_events, outcome_events, outcomes_text}
+use Rattle.era_top.specs.Runs.{lane_zero, command_of, commands_from, subject_of, AreAnswered, IsJournalOf}
 use Rattle.era_model.specs.History.{next_place}
 use Rattle.era_top.proofs.RunLaws.{answered-replies, answered-events}
 
@@ -36,30 +36,35 @@ four-between low high first second rest a b c d others =
     let P : ℕ × Event → Type 0 = λ event. (low ≤ event.0) × (event.0 < high) in
     All-cons P first (second ∷ rest) (a, b) (All-cons P second rest (c, d) others)
 
-ended-between : (marks : Bool) (write : WriteAtBlock) (place : ℕ) (ended : Event) → Between place (place + event_count (Done marks)) (ended_events marks write place ended)
-ended-between true write place ended =
-    four-between place (place + 4) (place, Tried write.id write.block 1) (place + 1, Mark write.id write.block 1)
-    ((place + 2, Go write.id write.block 1 write.first write.bytes) ∷ (place + 3, ended) ∷ [])
+one-between : (place : ℕ) (event : Event) → Between place (place + 1) ((place, event) ∷ [])
+one-between place event =
+    let P : ℕ × Event → Type 0 = λ event. (place ≤ event.0) × (event.0 < place + 1) in
+    All-cons P (place, event) [] (omega arith, omega arith) (All-nil P)
+
+ended-between : (marks : Bool) (subject : EventSubject) (place : ℕ) (ended : Event) → Between place (place + event_count (Done marks)) (ended_events marks subject place ended)
+ended-between true subject place ended =
+    four-between place (place + 4) (place, Tried subject.id subject.block subject.era) (place + 1, Mark subject.id subject.block subject.era)
+    ((place + 2, Go subject.id subject.block subject.era subject.first subject.bytes) ∷ (place + 3, ended) ∷ [])
     (omega arith) (omega arith) (omega arith) (omega arith)
-    (two-between place (place + 4) (place + 2, Go write.id write.block 1 write.first write.bytes) (place + 3, ended)
+    (two-between place (place + 4) (place + 2, Go subject.id subject.block subject.era subject.first subject.bytes) (place + 3, ended)
     (omega arith) (omega arith) (omega arith) (omega arith))
-ended-between false write place ended =
-    two-between place (place + 2) (place, Go write.id write.block 1 write.first write.bytes) (place + 1, ended)
+ended-between false subject place ended =
+    two-between place (place + 2) (place, Go subject.id subject.block subject.era subject.first subject.bytes) (place + 1, ended)
     (omega arith) (omega arith) (omega arith) (omega arith)
 
-outcome-between : (write : WriteAtBlock) (place : ℕ) (outcome : Outcome) → Between place (place + event_count outcome) (outcome_events write place outcome)
-outcome-between write place OutOfRange = All-nil _
-outcome-between write place (Done marks) = ended-between marks write place _
-outcome-between write place (Cut marks faults) = ended-between marks write place _
+outcome-between : (subject : EventSubject) (place : ℕ) (outcome : Outcome) → Between place (place + event_count outcome) (outcome_events subject place outcome)
+outcome-between subject place OutOfRange = All-nil _
+outcome-between subject place (Done marks) = ended-between marks subject place _
+outcome-between subject place (Cut marks faults) = ended-between marks subject place _
+outcome-between subject place (Moved era) = one-between place _
+outcome-between subject place LastEra = one-between place _
+outcome-between subject place (Listed blocks) = one-between place _
+outcome-between subject place NoMemory = one-between place _
 
-placed-between : (number : ℕ) (write : Write) (place : Option (ℕ × ℕ)) (start : ℕ) (outcome : Outcome) → Between start (start + event_count outcome) (events_at number write place start outcome)
-placed-between number write None start outcome = All-nil _
-placed-between number write (Some place) start outcome = outcome-between _ start outcome
-
--- the events of an answered write have the places from its first one on, as many as its outcome says
-answered-between : (g : Geometry) (h : List Happening) (number start : ℕ) (write : Write) (writes : List Write) (outcome : Outcome) (outcomes : List Outcome) (next : ℕ) → AreAnswered g h number start (write ∷ writes) (outcome ∷ outcomes) next → Between start (start + event_count outcome) (events_of h (lane_zero number))
-answered-between g h number start write writes outcome outcomes next answered =
-    All-same (λ event. (start ≤ event.0) × (event.0 < start + event_count outcome)) _ _ answered.1 (placed-between number write (place_of_write g write) start outcome)
+-- the events of an answered command have the places from its first one on, as many as its outcome says
+answered-between : (g : Geometry) (h : List Happening) (number era start : ℕ) (task : Task) (tasks : List Task) (outcome : Outcome) (outcomes : List Outcome) (next : ℕ) → AreAnswered g h number era start (task ∷ tasks) (outcome ∷ outcomes) next → Between start (start + event_count outcome) (events_of h (lane_zero number))
+answered-between g h number era start task tasks outcome outcomes next answered =
+    All-same (λ event. (start ≤ event.0) × (event.0 < start + event_count outcome)) _ _ answered.1 (outcome-between (subject_of g number era task) start outcome)
 
 place-before : (place from high : ℕ) (second : List (ℕ × Event)) → place < from → Between from high second → IsBefore place second
 place-before place from high [] before above = tt
@@ -75,44 +80,44 @@ between-before low middle from high (event ∷ first) second ordered below above
   between-before low middle from high first second ordered (λ k d kept. below (suc k) d (omega arith)) above,
 )
 
-answered-after : (g : Geometry) (h : List Happening) (command : Command) (low middle number start : ℕ) (writes : List Write) (outcomes : List Outcome) (next : ℕ) → Between low middle (events_of h command.id) → middle ≤ start → AreAnswered g h number start writes outcomes next → StandsBefore h command (commands_from number writes)
-answered-after g h command low middle number start [] outcomes next below ordered answered = tt
-answered-after g h command low middle number start (write ∷ writes) [] next below ordered answered = absurd answered
-answered-after g h command low middle number start (write ∷ writes) (outcome ∷ outcomes) next below ordered answered = (
-  (λ same. between-before low middle start (start + event_count outcome) _ _ ordered below (answered-between g h number start write writes outcome outcomes next answered)),
-  answered-after g h command low middle (number + 1) (start + event_count outcome) writes outcomes next below (omega arith) answered.2,
+answered-after : (g : Geometry) (h : List Happening) (command : Command) (low middle number era start : ℕ) (tasks : List Task) (outcomes : List Outcome) (next : ℕ) → Between low middle (events_of h command.id) → middle ≤ start → AreAnswered g h number era start tasks outcomes next → StandsBefore h command (commands_from number tasks)
+answered-after g h command low middle number era start [] outcomes next below ordered answered = tt
+answered-after g h command low middle number era start (task ∷ tasks) [] next below ordered answered = absurd answered
+answered-after g h command low middle number era start (task ∷ tasks) (outcome ∷ outcomes) next below ordered answered = (
+  (λ same. between-before low middle start (start + event_count outcome) _ _ ordered below (answered-between g h number era start task tasks outcome outcomes next answered)),
+  answered-after g h command low middle (number + 1) (era_after era outcome) (start + event_count outcome) tasks outcomes next below (omega arith) answered.2,
 )
 
--- the places of the writes that have the events of their outcomes ascend in their order
-pub answered-lanes : (g : Geometry) (h : List Happening) (number start : ℕ) (writes : List Write) (outcomes : List Outcome) (next : ℕ) → AreAnswered g h number start writes outcomes next → KeepsLanes h (commands_from number writes)
-answered-lanes g h number start [] outcomes next answered = tt
-answered-lanes g h number start (write ∷ writes) [] next answered = absurd answered
-answered-lanes g h number start (write ∷ writes) (outcome ∷ outcomes) next answered = (
-  answered-after g h (record { line = number + 1; id = lane_zero number; task = WriteAt write.sector write.bytes }) start (start + event_count outcome) (number + 1) (start + event_count outcome) writes outcomes next
-      (answered-between g h number start write writes outcome outcomes next answered) (omega arith) answered.2,
-  answered-lanes g h (number + 1) (start + event_count outcome) writes outcomes next answered.2,
+-- the places of the commands that have the events of their outcomes ascend in their order
+pub answered-lanes : (g : Geometry) (h : List Happening) (number era start : ℕ) (tasks : List Task) (outcomes : List Outcome) (next : ℕ) → AreAnswered g h number era start tasks outcomes next → KeepsLanes h (commands_from number tasks)
+answered-lanes g h number era start [] outcomes next answered = tt
+answered-lanes g h number era start (task ∷ tasks) [] next answered = absurd answered
+answered-lanes g h number era start (task ∷ tasks) (outcome ∷ outcomes) next answered = (
+  answered-after g h (command_of number task) start (start + event_count outcome) (number + 1) (era_after era outcome) (start + event_count outcome) tasks outcomes next
+      (answered-between g h number era start task tasks outcome outcomes next answered) (omega arith) answered.2,
+  answered-lanes g h (number + 1) (era_after era outcome) (start + event_count outcome) tasks outcomes next answered.2,
 )
 
--- the journal of writes that were run is a run of their commands, all of one round
-pub journal-run : (g : Geometry) (contents : List ℕ) (writes : List Write) (outcomes : List Outcome) (h : List Happening) → IsJournalOf g contents writes outcomes h → IsRun h (commands_from 0 writes ∷ [])
-journal-run g contents writes outcomes h journal =
-    let one : commands_from 0 writes ++ [] ≡ commands_from 0 writes = append-nil (commands_from 0 writes) in
+-- the journal of commands that were run is a run of them, all of one round
+pub journal-run : (g : Geometry) (contents : List ℕ) (tasks : List Task) (outcomes : List Outcome) (h : List Happening) → IsJournalOf g contents tasks outcomes h → IsRun h (commands_from 0 tasks ∷ [])
+journal-run g contents tasks outcomes h journal =
+    let one : commands_from 0 tasks ++ [] ≡ commands_from 0 tasks = append-nil (commands_from 0 tasks) in
     record {
       drawn = subst (λ commands. AreAllDrawnBy commands h) (sym one) journal.drawn;
-      events = subst (λ commands. HaveTheirEvents h commands) (sym one) (answered-events g contents h 0 0 writes outcomes (next_place h) journal.opened journal.answered);
-      lanes = subst (λ commands. KeepsLanes h commands) (sym one) (answered-lanes g h 0 0 writes outcomes (next_place h) journal.answered);
+      events = subst (λ commands. HaveTheirEvents h commands) (sym one) (answered-events g contents h 0 1 0 tasks outcomes (next_place h) journal.opened journal.answered);
+      lanes = subst (λ commands. KeepsLanes h commands) (sym one) (answered-lanes g h 0 1 0 tasks outcomes (next_place h) journal.answered);
     }
 
--- the replies of the journal of writes that were run are those of their outcomes
-pub journal-replies : (g : Geometry) (contents : List ℕ) (writes : List Write) (outcomes : List Outcome) (h : List Happening) → IsJournalOf g contents writes outcomes h → replies_text h (commands_from 0 writes) ≡ outcomes_text 1 0 outcomes
-journal-replies g contents writes outcomes h journal = answered-replies g h 0 0 writes outcomes (next_place h) journal.answered
+-- the replies of the journal of commands that were run are those of their outcomes
+pub journal-replies : (g : Geometry) (contents : List ℕ) (tasks : List Task) (outcomes : List Outcome) (h : List Happening) → IsJournalOf g contents tasks outcomes h → replies_text h (commands_from 0 tasks) ≡ outcomes_text 1 0 outcomes
+journal-replies g contents tasks outcomes h journal = answered-replies g h 0 1 0 tasks outcomes (next_place h) journal.answered
 
 zero-entries : (blocks block : ℕ) → slice_index_or (replicate blocks 0) block 0 ≤ 0
 zero-entries zero block = omega arith
 zero-entries (suc blocks) zero = omega arith
 zero-entries (suc blocks) (suc block) = zero-entries blocks block
 
-no_marks-valid : (sectors block_sectors : ℕ) → AreValidMarks (no_marks sectors block_sectors 1)
+pub no_marks-valid : (sectors block_sectors : ℕ) → AreValidMarks (no_marks sectors block_sectors 1)
 no_marks-valid sectors block_sectors = record {
   begun = omega arith;
   array_size = length-replicate _ _;

@@ -1,10 +1,9 @@
 -- How a session went, from the run of its writes and the lines that were given.
-use Rattle.std.proofs.Common.{◌≡◌, ℕ, ◌+◌, true, false, List, [], ◌∷◌, ◌++◌, length, get_or, take, Option, Some, None, refl, ap, sym, ◌∙◌, subst, arith, inl, inr, append_assoc}
+use Rattle.std.proofs.Common.{◌≡◌, ℕ, ◌+◌, Bool, true, false, List, [], ◌∷◌, ◌++◌, length, get_or, take, Option, Some, None, refl, ap, sym, ◌∙◌, subst, arith, inl, inr, append_assoc}
 use Rattle.std.specs.Prelude.{if◌then◌else◌}
 use Rattle.std.proofs.lemmas.List.{take_all, append-nil}
 use Rattle.std.proofs.lemmas.List.Sums.{sum_by-cons}
 use Rattle.era_base.specs.declared.geometry.Geometry.{Geometry}
-use Rattle.era_base.specs.CrashModel.{IsClean}
 use Rattle.era_base.specs.Faults.{Rose}
 use Rattle.era_base.specs.Streams.{GivesFront}
 use Rattle.era_model.specs.declared.history.Happening.{Happening}
@@ -14,21 +13,22 @@ use Rattle.era_model.specs.Journal.{session_opening}
 use Rattle.era_model.specs.Transcript.{Stop, ReadToEnd, SourceFault, open_line, stop_line, end_line, replies_text}
 use Rattle.era_model.specs.Writes.{block_bytes}
 use Rattle.era_plan.specs.declared.round.PlanError.{PlanError}
-use Rattle.era_plan.specs.declared.round.Write.{Write}
+use Rattle.era_plan.specs.declared.task.Task.{Task}
 use Rattle.era_plan.specs.Grammar.{lines_of}
 use Rattle.era_plan.specs.declared.round.PlanError.TheVariants.{Line as LineError, Source as SourceError, Memory as MemoryError}
 use Rattle.era_plan.specs.Rounds.{SpellRound, Refuses, FailsBehind, HasErrorCause}
 use Rattle.era_top.specs.declared.outcome.Outcome.{Outcome}
-use Rattle.era_top.specs.declared.outcome.Outcome.TheVariants.{OutOfRange, Done as DoneOutcome, Cut as CutOutcome}
 use Rattle.era_top.specs.declared.status.Status.{Status}
-use Rattle.era_top.specs.declared.status.Status.TheVariants.{Done, Fault, Sink}
-use Rattle.era_top.specs.Outcomes.{event_count, outcomes_text, total_events}
-use Rattle.era_top.specs.Runs.{commands_from, AreAnswered, IsJournalOf, some_cut}
-use Rattle.era_top.specs.Sessions.{Session, Around, IsSession, HasReadAll, HasRunNothing, EndsBy, Prints, Goes, GoesOn, session_text, text_behind_open, stop_of, status_of, round_status}
-use Rattle.era_top.specs.Steps.{some_issued, HaveRun}
+use Rattle.era_top.specs.declared.status.Status.TheVariants.{Done, Fault, Memory, Sink}
+use Rattle.era_top.specs.Outcomes.{era_after, event_count, outcomes_text, total_events}
+use Rattle.era_top.specs.Runs.{commands_from, AreAnswered, IsJournalOf, some_cut, some_lack}
+use Rattle.era_top.specs.Sessions.{Session, Around, IsSession, HasReadAll, HasDoneAll, HasRunNothing, EndsBy, some_says_memory, Prints, Goes, GoesOn, session_text, text_behind_open, stop_of, status_of, round_status}
+use Rattle.era_top.specs.Steps.{HaveRun}
 use Rattle.era_top.proofs.Gives.{gives_front-within}
 use Rattle.era_top.proofs.Journals.{at_opening-known}
+use Rattle.era_top.proofs.RunLaws.{answered-lack}
 use Rattle.era_top.proofs.RunOrder.{journal-run, journal-replies, opening-legal}
+use Rattle.era_top.proofs.StreamSteps.{never-empty}
 
 -- a front of the first part is a front of all
 gives_front-first : (before piece rest : List ℕ) (after : Option (List ℕ)) → GivesFront before piece after → GivesFront before (piece ++ rest) after
@@ -54,26 +54,13 @@ pub prints-first : (given given' : Option (List ℕ)) (first rest : List ℕ) (e
 prints-first given given' first rest ended front = inr (refl, (λ before is. gives_front-first before first rest given' (front before is)))
 
 -- the next place is behind all events
-pub answered-total : (g : Geometry) (h : List Happening) (number start : ℕ) (writes : List Write) (outcomes : List Outcome) (next : ℕ) → AreAnswered g h number start writes outcomes next → next ≡ start + total_events outcomes
-answered-total g h number start [] [] next answered = omega (arith, answered)
-answered-total g h number start [] (outcome ∷ outcomes) next answered = absurd answered
-answered-total g h number start (write ∷ writes) [] next answered = absurd answered
-answered-total g h number start (write ∷ writes) (outcome ∷ outcomes) next answered =
-    let rest = answered-total g h (number + 1) (start + event_count outcome) writes outcomes next answered.2 in
+pub answered-total : (g : Geometry) (h : List Happening) (number era start : ℕ) (tasks : List Task) (outcomes : List Outcome) (next : ℕ) → AreAnswered g h number era start tasks outcomes next → next ≡ start + total_events outcomes
+answered-total g h number era start [] [] next answered = omega (arith, answered)
+answered-total g h number era start [] (outcome ∷ outcomes) next answered = absurd answered
+answered-total g h number era start (task ∷ tasks) [] next answered = absurd answered
+answered-total g h number era start (task ∷ tasks) (outcome ∷ outcomes) next answered =
+    let rest = answered-total g h (number + 1) (era_after era outcome) (start + event_count outcome) tasks outcomes next answered.2 in
     let more : total_events (outcome ∷ outcomes) ≡ event_count outcome + total_events outcomes = sum_by-cons event_count outcome outcomes in omega arith
-
--- without a write that was issued there is no event
-none-issued : (outcomes : List Outcome) → some_issued outcomes ≡ false → total_events outcomes ≡ 0
-none-issued [] none = refl
-none-issued (OutOfRange ∷ outcomes) none = none-issued outcomes none
-none-issued (DoneOutcome marks ∷ outcomes) none = absurd (cc)
-none-issued (CutOutcome marks faults ∷ outcomes) none = absurd (cc)
-
-issued-by-events : (outcomes : List Outcome) → (total_events outcomes ≡ 0 → ⊥) → some_issued outcomes ≡ true
-issued-by-events outcomes events = elim (some_issued outcomes) as (λ issued. some_issued outcomes ≡ issued → issued ≡ true) [
-  | true ↦ λ _. refl
-  | false ↦ λ none. absurd (events (none-issued outcomes none))
-] refl
 
 -- the text of a session is its first line and what stands behind it
 pub session-text-is : (g : Geometry) (contents : List ℕ) (session : Session) → at_opening None (λ opening. Some opening) session.journal ≡ Some (session_opening g contents)
@@ -99,7 +86,15 @@ goes-behind g contents around given given' given'' result was on = record {
 
 -- the journal of a session that ran nothing
 nothing : (g : Geometry) (contents : List ℕ) → IsJournalOf g contents [] [] (Opened (session_opening g contents) ∷ [])
-nothing g contents = record { opened = refl; ongoing = refl; legal = opening-legal g contents; era = refl; answered = refl; drawn = tt }
+nothing g contents = record {
+  opened = refl;
+  ongoing = refl;
+  legal = opening-legal g contents;
+  era = refl;
+  answered = refl;
+  drawn = tt;
+  lists = λ before after list since among asks. absurd (never-empty before list after among);
+}
 
 -- a session that ran nothing is one of the origin, which reads as before
 idle-session : (g : Geometry) (contents : List ℕ) (around : Around) (stop : Stop) → (around.tells ≡ true → around.disk' ≡ around.disk)
@@ -108,6 +103,7 @@ idle-session g contents around stop same = record {
   opened = refl;
   legal = opening-legal g contents;
   run = journal-run g contents [] [] (Opened (session_opening g contents) ∷ []) (nothing g contents);
+  lists = (nothing g contents).lists;
   counts = tt;
   reads = λ told is block within. record {
     size = ap (λ bytes. length (block_bytes g.block_sectors bytes block)) (ap (λ state. state.seen) (same told) ∙ sym is);
@@ -131,7 +127,7 @@ goes-unopened g contents around given given' same front =
 
 -- the stream gave no round, and the last lines say why
 pub goes-stop : (g : Geometry) (contents : List ℕ) (around : Around) (given given' : Option (List ℕ)) (error : PlanError) (result : Status) → (around.tells ≡ true → around.disk' ≡ around.disk)
-    → ((session : Session) → session.stop ≡ stop_of error → HasRunNothing around session → EndsBy around session (status_of error))
+    → ((session : Session) → session.stop ≡ stop_of error → HasRunNothing around session → EndsBy g around session (status_of error))
     → Prints given given' (stop_line (stop_of error) ++ end_line 1 0) (status_of error) result → GoesOn g contents around given given' result
 goes-stop g contents around given given' error result same cause printed =
     let session : Session = record { journal = Opened (session_opening g contents) ∷ []; commands = []; stop = stop_of error } in
@@ -143,25 +139,39 @@ goes-stop g contents around given given' error result same cause printed =
       printed = printed;
     }
 
--- the writes of the stream were run, and the replies say how
-round-cause : (around : Around) (session : Session) (outcomes : List Outcome) → HasReadAll around session
+-- how a session ends whose commands were run
+round-cause : (g : Geometry) (around : Around) (session : Session) (outcomes : List Outcome) → HasReadAll around session
     → (some_cut outcomes ≡ true → Rose around.disk_faults around.disk_faults')
-    → (some_cut outcomes ≡ false → (in_flight session.journal ≡ []) × (around.tells ≡ true → (next_place session.journal ≡ 0 → ⊥) → IsClean around.disk') × (around.disk_faults' ≡ around.disk_faults))
-    → EndsBy around session (round_status outcomes)
-round-cause around session outcomes read cut done = elim (some_cut outcomes) as (λ flag. some_cut outcomes ≡ flag → EndsBy around session (if flag then Fault else Done)) [
+    → (some_cut outcomes ≡ false → HasDoneAll g around session)
+    → some_says_memory session.journal session.commands ≡ some_lack outcomes
+    → EndsBy g around session (round_status outcomes)
+round-cause g around session outcomes read cut done lack = elim (some_cut outcomes) as (λ flag. some_cut outcomes ≡ flag → EndsBy g around session (if flag then Fault else if some_lack outcomes then Memory else Done)) [
   | true ↦ λ is. (read, cut is)
-  | false ↦ λ is. (read, (done is).0, (done is).1, (done is).2)
+  | false ↦ λ is. uncut (some_lack outcomes) lack (done is)
 ] refl
+  where
+    uncut : (flag : Bool) → some_says_memory session.journal session.commands ≡ flag → HasDoneAll g around session → EndsBy g around session (if flag then Memory else Done)
+    uncut true lacked all = inr (all, lacked)
+    uncut false lacked all = (all, lacked)
 
-pub goes-round : (g : Geometry) (contents : List ℕ) (around : Around) (given given' : Option (List ℕ)) (writes : List Write) (outcomes : List Outcome) (h : List Happening) (result : Status)
-    → HaveRun g contents writes outcomes around.tells around.disk_faults around.disk_faults' around.disk around.disk' h
-    → ((text : List ℕ) → around.left ≡ Some text → SpellRound (lines_of text) writes)
-    → Prints given given' (outcomes_text 1 0 outcomes ++ (stop_line ReadToEnd ++ end_line 1 (total_events outcomes))) (round_status outcomes) result
+-- the commands of the stream were run, and the replies say how
+pub goes-round : (g : Geometry) (contents : List ℕ) (around : Around) (given given' : Option (List ℕ)) (tasks : List Task) (outcomes : List Outcome) (era : ℕ) (h : List Happening) (result : Status)
+    → HaveRun g contents tasks outcomes around.tells era around.disk_faults around.disk_faults' around.disk around.disk' h
+    → ((text : List ℕ) → around.left ≡ Some text → SpellRound (lines_of text) tasks)
+    → Prints given given' (outcomes_text 1 0 outcomes ++ (stop_line ReadToEnd ++ end_line era (total_events outcomes))) (round_status outcomes) result
     → GoesOn g contents around given given' result
-goes-round g contents around given given' writes outcomes h result run spelled printed =
-    let front = take (length outcomes) writes in
+goes-round g contents around given given' tasks outcomes era h result run spelled printed =
+    let front = take (length outcomes) tasks in
     let session : Session = record { journal = h; commands = commands_from 0 front; stop = ReadToEnd } in
-    let total : next_place h ≡ total_events outcomes = answered-total g h 0 0 front outcomes (next_place h) run.journal.answered ∙ (omega arith) in
+    let total : next_place h ≡ total_events outcomes = answered-total g h 0 1 0 front outcomes (next_place h) run.journal.answered ∙ (omega arith) in
+    let read : HasReadAll around session = record {
+      tasks = tasks;
+      answered = length outcomes;
+      spelled = spelled;
+      commands = refl;
+      stop = refl;
+      whole = λ empty. all-answered empty;
+    } in
     record {
       session = session;
       ended = round_status outcomes;
@@ -169,33 +179,26 @@ goes-round g contents around given given' writes outcomes h result run spelled p
         opened = run.journal.opened;
         legal = run.journal.legal;
         run = journal-run g contents front outcomes h run.journal;
+        lists = run.journal.lists;
         counts = run.counts;
         reads = run.reads;
       };
-      cause = round-cause around session outcomes
-          (record {
-            writes = writes;
-            answered = length outcomes;
-            spelled = spelled;
-            commands = refl;
-            stop = refl;
-            whole = λ empty. all-answered empty;
-          })
-          run.rose
-          (λ none. (run.quiet none, (λ told some. run.clean told none (issued-by-events outcomes (λ zero. some (total ∙ zero)))), run.kept none));
-      printed = rw (journal-replies g contents front outcomes h run.journal, run.journal.era, total) printed;
+      cause = round-cause g around session outcomes read run.rose
+          (λ none. record { read = read; quiet = run.quiet none; clean = λ told. run.clean told none; kept = run.kept none })
+          (answered-lack g h 0 1 0 front outcomes (next_place h) run.journal.answered);
+      printed = rw (journal-replies g contents front outcomes h run.journal, total, ← run.present) printed;
     }
   where
-    all-answered : in_flight h ≡ [] → take (length outcomes) writes ≡ writes
-    all-answered empty = elim (some_cut outcomes) as (λ flag. some_cut outcomes ≡ flag → take (length outcomes) writes ≡ writes) [
+    all-answered : in_flight h ≡ [] → take (length outcomes) tasks ≡ tasks
+    all-answered empty = elim (some_cut outcomes) as (λ flag. some_cut outcomes ≡ flag → take (length outcomes) tasks ≡ tasks) [
       | true ↦ λ cut. absurd (run.stopped cut empty)
-      | false ↦ λ none. take_all (length outcomes) writes (let e = run.whole none in omega arith)
+      | false ↦ λ none. take_all (length outcomes) tasks (let e = run.whole none in omega arith)
     ] refl
 
 -- why a stream gave no round is why its session ended
-pub error-cause : (around : Around) (error : PlanError) → HasErrorCause around.source_faults around.source_faults' error → ((text : List ℕ) → around.left ≡ Some text → Refuses text error)
+pub error-cause : (g : Geometry) (around : Around) (error : PlanError) → HasErrorCause around.source_faults around.source_faults' error → ((text : List ℕ) → around.left ≡ Some text → Refuses text error)
     → ((text : List ℕ) → around.left ≡ Some text → FailsBehind text around.left' error)
-    → (session : Session) → session.stop ≡ stop_of error → HasRunNothing around session → EndsBy around session (status_of error)
-error-cause around (LineError error) cause refused front session stop idle = (idle, (error.line, stop, (λ text is. (refused text is).1)))
-error-cause around (SourceError count) cause refused front session stop idle = (idle, stop ∙ ap (λ n. SourceFault n) cause.0, cause.1, front)
-error-cause around MemoryError cause refused front session stop idle = (idle, stop)
+    → (session : Session) → session.stop ≡ stop_of error → HasRunNothing around session → EndsBy g around session (status_of error)
+error-cause g around (LineError error) cause refused front session stop idle = (idle, (error.line, stop, (λ text is. (refused text is).1)))
+error-cause g around (SourceError count) cause refused front session stop idle = (idle, stop ∙ ap (λ n. SourceFault n) cause.0, cause.1, front)
+error-cause g around MemoryError cause refused front session stop idle = inl (idle, stop)

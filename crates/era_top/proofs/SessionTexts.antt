@@ -37,5 +37,5 @@ pub memory-parts : stop_line NoMemory ++ end_line 1 0 ≡ codes "memory\nend 1 0
 memory-parts = rw end-nothing refl
 
 -- the last line of a session whose stream was read
-pub end-parts : (events : ℕ) → stop_line ReadToEnd ++ end_line 1 events ≡ codes "end 1 " ++ (decimal events ++ (10 ∷ [] ++ []))
-end-parts events = rw one refl
+pub end-parts : (era events : ℕ) → stop_line ReadToEnd ++ end_line era events ≡ codes "end " ++ (decimal era ++ (codes " " ++ (decimal events ++ (10 ∷ [] ++ []))))
+end-parts era events = simp append_assoc

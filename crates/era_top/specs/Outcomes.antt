@@ -1,65 +1,91 @@
--- The events of one write, and the reply that they give, by how the write went.
+-- The events of one command, and the reply that they give, by how the command went.
 use Rattle.std.specs.Prelude.{ℕ, ◌+◌, sum_by, Bool, true, false, List, [], ◌∷◌, ◌++◌, if◌then◌else◌}
 use Rattle.era_base.specs.declared.ids.CmdId.{CmdId}
 use Rattle.era_model.specs.declared.event.Event.{Event}
-use Rattle.era_model.specs.declared.event.Event.TheVariants.{Tried, Mark, Go, Done as DoneEvent, Cut as CutEvent}
-use Rattle.era_model.specs.declared.history.Happening.{Happening}
-use Rattle.era_model.specs.declared.history.Happening.TheVariants.{Happened}
+use Rattle.era_model.specs.declared.event.Event.TheVariants.{Tried, Mark, Go, Done as DoneEvent, Cut as CutEvent, Roll, List as ListEvent, Refused}
+use Rattle.era_model.specs.declared.event.Kind.TheVariants.{Checkpoint as CheckpointKind, List as ListKind}
+use Rattle.era_model.specs.declared.event.Why.TheVariants.{End, Memory}
 use Rattle.era_model.specs.Transcript.{reply_line}
 use Rattle.era_top.specs.declared.outcome.Outcome.{Outcome}
-use Rattle.era_top.specs.declared.outcome.Outcome.TheVariants.{OutOfRange, Done, Cut}
+use Rattle.era_top.specs.declared.outcome.Outcome.TheVariants.{OutOfRange, Done, Cut, Moved, LastEra, Listed, NoMemory}
 
--- How many events a write has.
+-- How many events a command has.
 abbrev pub event_count : Outcome → ℕ
 event_count OutOfRange = 0
 event_count (Done marks) = if marks then 4 else 2
 event_count (Cut marks faults) = if marks then 4 else 2
+event_count (Moved era) = 1
+event_count LastEra = 1
+event_count (Listed blocks) = 1
+event_count NoMemory = 1
 
--- Whether the write was cut.
+-- Whether a write was issued to the disk.
+abbrev pub is_issued : Outcome → Bool
+is_issued (Done marks) = true
+is_issued (Cut marks faults) = true
+is_issued outcome = false
+
+-- Whether a write was cut.
 abbrev pub is_cut_outcome : Outcome → Bool
-is_cut_outcome OutOfRange = false
-is_cut_outcome (Done marks) = false
 is_cut_outcome (Cut marks faults) = true
+is_cut_outcome outcome = false
 
--- Which write it is: its name, its block, the first sector within the block, and the bytes.
-pub record WriteAtBlock : Type 0 where
+-- Whether memory for a list was refused.
+abbrev pub lacks_memory : Outcome → Bool
+lacks_memory NoMemory = true
+lacks_memory outcome = false
+
+-- The era after a command: a checkpoint that moved it tells the new one.
+abbrev pub era_after : ℕ → Outcome → ℕ
+era_after era (Moved next) = next
+era_after era outcome = era
+
+-- The era after commands.
+abbrev pub era_after_all : ℕ → List Outcome → ℕ
+era_after_all era [] = era
+era_after_all era (outcome ∷ outcomes) = era_after_all (era_after era outcome) outcomes
+
+-- What the events of a command name: the command, the era in which it runs, the block of a write with the first sector within it and the bytes, and the era since which a list asks.
+pub record EventSubject : Type 0 where
   pub id : CmdId
+  pub era : ℕ
   pub block : ℕ
   pub first : ℕ
   pub bytes : List ℕ
+  pub since : ℕ
 
 -- The events of a write that was issued, from a place on: those of its mark come first where it marks its block.
-abbrev pub ended_events : Bool → WriteAtBlock → ℕ → Event → List (ℕ × Event)
-ended_events true write place ended =
-    (place, Tried write.id write.block 1) ∷ (place + 1, Mark write.id write.block 1)
-    ∷ (place + 2, Go write.id write.block 1 write.first write.bytes) ∷ (place + 3, ended) ∷ []
-ended_events false write place ended = (place, Go write.id write.block 1 write.first write.bytes) ∷ (place + 1, ended) ∷ []
+abbrev pub ended_events : Bool → EventSubject → ℕ → Event → List (ℕ × Event)
+ended_events true subject place ended =
+    (place, Tried subject.id subject.block subject.era) ∷ (place + 1, Mark subject.id subject.block subject.era)
+    ∷ (place + 2, Go subject.id subject.block subject.era subject.first subject.bytes) ∷ (place + 3, ended) ∷ []
+ended_events false subject place ended =
+    (place, Go subject.id subject.block subject.era subject.first subject.bytes) ∷ (place + 1, ended) ∷ []
 
--- The events of a write, each with its place.
-abbrev pub outcome_events : WriteAtBlock → ℕ → Outcome → List (ℕ × Event)
-outcome_events write place OutOfRange = []
-outcome_events write place (Done marks) = ended_events marks write place (DoneEvent write.id)
-outcome_events write place (Cut marks faults) = ended_events marks write place (CutEvent write.id faults)
+-- The events of a command, each with its place.
+abbrev pub outcome_events : EventSubject → ℕ → Outcome → List (ℕ × Event)
+outcome_events subject place OutOfRange = []
+outcome_events subject place (Done marks) = ended_events marks subject place (DoneEvent subject.id)
+outcome_events subject place (Cut marks faults) = ended_events marks subject place (CutEvent subject.id faults)
+outcome_events subject place (Moved era) = (place, Roll subject.id era) ∷ []
+outcome_events subject place LastEra = (place, Refused subject.id CheckpointKind End) ∷ []
+outcome_events subject place (Listed blocks) = (place, ListEvent subject.id subject.since false blocks) ∷ []
+outcome_events subject place NoMemory = (place, Refused subject.id ListKind Memory) ∷ []
 
--- The history after these events, the first of them the earliest.
-abbrev pub history_with : List Happening → List (ℕ × Event) → List Happening
-history_with h [] = h
-history_with h (event ∷ events) = history_with (Happened event.1 ∷ h) events
+-- No command in particular: a reply doesn't depend on what its events name beside the outcome.
+abbrev pub some_subject : EventSubject
+some_subject = record { id = record { lane = 0; number = 0 }; era = 0; block = 0; first = 0; bytes = []; since = 0 }
 
--- No write in particular: the reply of a write doesn't depend on which one it is.
-abbrev pub some_write : WriteAtBlock
-some_write = record { id = record { lane = 0; number = 0 }; block = 0; first = 0; bytes = [] }
-
--- The reply to a write, from the number of its line and the place of its first event.
+-- The reply to a command, from the number of its line and the place of its first event.
 abbrev pub outcome_line : ℕ → ℕ → Outcome → List ℕ
-outcome_line line place outcome = reply_line line (outcome_events some_write place outcome)
+outcome_line line place outcome = reply_line line (outcome_events some_subject place outcome)
 
--- The replies to writes, from the number of the first one's line and the place of the first event on.
+-- The replies to commands, from the number of the first one's line and the place of the first event on.
 abbrev pub outcomes_text : ℕ → ℕ → List Outcome → List ℕ
 outcomes_text line place [] = []
 outcomes_text line place (outcome ∷ outcomes) =
     outcome_line line place outcome ++ outcomes_text (line + 1) (place + event_count outcome) outcomes
 
--- How many events writes have together.
+-- How many events commands have together.
 abbrev pub total_events : List Outcome → ℕ
 total_events outcomes = sum_by event_count outcomes

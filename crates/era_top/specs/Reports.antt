@@ -96,7 +96,7 @@ pub record IsServed {D : Type 0} (words : List (List ℕ)) (contents : List ℕ)
   pub origin : IsOrigin disks bay line lent
   pub loans : bay.loans' ≡ bay.loans ++ ended_loan (new_loan lent) back ∷ []
   pub right : IsSession geometry contents (around_session disks streams lent back) session
-  pub cause : EndsBy (around_session disks streams lent back) session ended
+  pub cause : EndsBy geometry (around_session disks streams lent back) session ended
   pub content : disks.tells ≡ true → HasContent bay.reads line.origin line.length contents → EndsAsJournal bay line geometry session
   pub others : SameReadsBut line.origin 0 line.length bay.reads bay.reads'
   pub faults : bay.faults' ≡ bay.faults

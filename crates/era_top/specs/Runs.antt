@@ -1,5 +1,5 @@
--- Runs of a stream's writes: their commands, the events that each of them has, and the journal of them all.
-use Rattle.std.specs.Prelude.{true, ◌≡◌, ◌≢◌, ℕ, ◌+◌, ◌/◌, ◌<◌, ◌≤◌, Bool, false, List, [], ◌∷◌, length, slice_index_or, Option, Some, None}
+-- Runs of a stream's commands: the events that each of them has, and the journal of them all.
+use Rattle.std.specs.Prelude.{◌≡◌, ◌⊎◌, ◌↔◌, ℕ, ◌+◌, ◌/◌, ◌<◌, ◌≤◌, max, Bool, true, false, List, [], ◌∷◌, length, Option, Some, None}
 use Rattle.std.specs.List.{list_any}
 use Rattle.era_base.specs.declared.geometry.Geometry.{Geometry}
 use Rattle.era_base.specs.declared.ids.CmdId.{CmdId}
@@ -7,20 +7,26 @@ use Rattle.era_base.specs.Geometry.{blocks_of, place_at}
 use Rattle.era_model.specs.declared.event.Event.{Event}
 use Rattle.era_model.specs.declared.history.Happening.{Happening}
 use Rattle.era_model.specs.Changed.{IsCrashContent}
-use Rattle.era_model.specs.Commands.{events_of}
+use Rattle.era_model.specs.Commands.{Command, events_of}
 use Rattle.era_model.specs.Counts.{FaultyDisk, CountsAreWithin, last_count}
 use Rattle.era_model.specs.Events.{is_go_of}
-use Rattle.era_model.specs.History.{at_opening, is_open, era_of, in_flight, next_place}
+use Rattle.era_model.specs.History.{at_opening, era_of, in_flight, is_open, next_place}
 use Rattle.era_model.specs.Journal.{session_opening}
 use Rattle.era_model.specs.Legal.{IsLegal}
-use Rattle.era_model.specs.Marking.{is_marked_in, some_event}
+use Rattle.era_model.specs.Marking.{is_marked_in, journal_last_era, some_event}
+use Rattle.era_model.specs.Marks.{BlockMarks, has, marks_last_era}
 use Rattle.era_model.specs.SessionRun.{AreAllDrawnBy}
+use Rattle.era_model.specs.StreamLists.{era_behind, IsWrittenSince, ListsNameWritten}
+use Rattle.era_model.specs.Validity.{AreValidMarks}
 use Rattle.era_model.specs.Writes.{block_bytes}
-use Rattle.era_plan.specs.declared.round.Write.{Write}
-pub use Rattle.era_plan.specs.ModelRounds.{commands_from}
+use Rattle.era_plan.specs.declared.task.Request.TheVariants.{Checkpoint, ListSince}
+use Rattle.era_plan.specs.declared.task.Task.{Task}
+use Rattle.era_plan.specs.declared.task.Task.TheVariants.{Write as WriteTask, Ask}
+use Rattle.era_plan.specs.declared.task.Write.{Write}
+pub use Rattle.era_plan.specs.ModelRounds.{command_of, commands_from}
 use Rattle.era_top.specs.declared.outcome.Outcome.{Outcome}
-use Rattle.era_top.specs.declared.outcome.Outcome.TheVariants.{OutOfRange}
-use Rattle.era_top.specs.Outcomes.{event_count, is_cut_outcome, outcome_events}
+use Rattle.era_top.specs.declared.outcome.Outcome.TheVariants.{OutOfRange, Moved, LastEra, Listed, NoMemory}
+use Rattle.era_top.specs.Outcomes.{EventSubject, era_after, era_after_all, event_count, is_cut_outcome, is_issued, lacks_memory, outcome_events}
 
 -- The command of lane 0 with the number.
 abbrev pub lane_zero : ℕ → CmdId
@@ -33,47 +39,90 @@ place_of_write g write = place_at g.sectors g.block_sectors write.sector (length
 -- A write has no events exactly where it is out of range.
 abbrev pub FitsPlace : Option (ℕ × ℕ) → Outcome → Type 0
 FitsPlace None outcome = outcome ≡ OutOfRange
-FitsPlace (Some place) outcome = outcome ≢ OutOfRange
+FitsPlace (Some place) outcome = is_issued outcome ≡ true
 
--- The events of a write with this number, from a place of the journal on, by how it went.
-abbrev pub events_at : ℕ → Write → Option (ℕ × ℕ) → ℕ → Outcome → List (ℕ × Event)
-events_at number write None start outcome = []
-events_at number write (Some place) start outcome =
-    outcome_events (record { id = lane_zero number; block = place.0; first = place.1; bytes = write.bytes }) start outcome
+-- A list names blocks, or memory for it was refused.
+abbrev pub FitsList : Outcome → Type 0
+FitsList (Listed blocks) = Unit {0}
+FitsList NoMemory = Unit {0}
+FitsList outcome = ⊥
 
--- Each of the writes, from a number and a place of the journal on, has the events that its outcome says, and the next place is this one.
-abbrev pub AreAnswered : Geometry → List Happening → ℕ → ℕ → List Write → List Outcome → ℕ → Type 0
-AreAnswered g h number start [] [] next = start ≡ next
-AreAnswered g h number start (write ∷ writes) (outcome ∷ outcomes) next =
-    FitsPlace (place_of_write g write) outcome
-    × (events_of h (lane_zero number) ≡ events_at number write (place_of_write g write) start outcome)
-    × AreAnswered g h (number + 1) (start + event_count outcome) writes outcomes next
-AreAnswered g h number start writes outcomes next = ⊥
+-- A task may go so in the era: a checkpoint moves to the next one, or the era is the last one.
+abbrev pub FitsTask : Geometry → ℕ → Task → Outcome → Type 0
+FitsTask g era (WriteTask write) outcome = FitsPlace (place_of_write g write) outcome
+FitsTask g era (Ask Checkpoint) outcome = (outcome ≡ Moved (era + 1)) ⊎ (outcome ≡ LastEra)
+FitsTask g era (Ask (ListSince since)) outcome = FitsList outcome
+
+-- What the events of a write with this number name, by its place.
+abbrev pub subject_of_write : ℕ → ℕ → Write → Option (ℕ × ℕ) → EventSubject
+subject_of_write number era write None =
+    record { id = lane_zero number; era = era; block = 0; first = 0; bytes = write.bytes; since = 0 }
+subject_of_write number era write (Some place) =
+    record { id = lane_zero number; era = era; block = place.0; first = place.1; bytes = write.bytes; since = 0 }
+
+-- What the events of a command with this number name, that runs in this era.
+abbrev pub subject_of : Geometry → ℕ → ℕ → Task → EventSubject
+subject_of g number era (WriteTask write) = subject_of_write number era write (place_of_write g write)
+subject_of g number era (Ask Checkpoint) =
+    record { id = lane_zero number; era = era; block = 0; first = 0; bytes = []; since = 0 }
+subject_of g number era (Ask (ListSince since)) =
+    record { id = lane_zero number; era = era; block = 0; first = 0; bytes = []; since = since }
+
+-- Each of the commands, from a number, an era and a place of the journal on, has the events that its outcome says, and the next place is this one.
+abbrev pub AreAnswered : Geometry → List Happening → ℕ → ℕ → ℕ → List Task → List Outcome → ℕ → Type 0
+AreAnswered g h number era start [] [] next = start ≡ next
+AreAnswered g h number era start (task ∷ tasks) (outcome ∷ outcomes) next =
+    FitsTask g era task outcome
+    × (events_of h (lane_zero number) ≡ outcome_events (subject_of g number era task) start outcome)
+    × AreAnswered g h (number + 1) (era_after era outcome) (start + event_count outcome) tasks outcomes next
+AreAnswered g h number era start tasks outcomes next = ⊥
 
 -- Whether one of the writes was cut.
 abbrev pub some_cut : List Outcome → Bool
 some_cut outcomes = list_any is_cut_outcome outcomes
 
--- The journal of writes that were run, with how each of them went: it is that of a first session of the origin, which is open, it is legal, it is in era 1, and each event is of one of the writes.
-pub record IsJournalOf (g : Geometry) (contents : List ℕ) (writes : List Write) (outcomes : List Outcome) (h : List Happening) : Type 0 where
+-- Whether memory for one of the lists was refused.
+abbrev pub some_lack : List Outcome → Bool
+some_lack outcomes = list_any lacks_memory outcomes
+
+-- The journal of commands that were run, with how each of them went: it is that of a first session of the origin, it is legal, each event is of one of the commands, and each list names what was written.
+pub record IsJournalOf (g : Geometry) (contents : List ℕ) (tasks : List Task) (outcomes : List Outcome) (h : List Happening) : Type 0 where
   pub opened : at_opening None (λ opening. Some opening) h ≡ Some (session_opening g contents)
   pub ongoing : is_open h ≡ true
   pub legal : IsLegal h
-  pub era : era_of h ≡ 1
-  pub answered : AreAnswered g h 0 0 writes outcomes (next_place h)
-  pub drawn : AreAllDrawnBy (commands_from 0 writes) h
+  pub era : era_of h ≡ era_after_all 1 outcomes
+  pub answered : AreAnswered g h 0 1 0 tasks outcomes (next_place h)
+  pub drawn : AreAllDrawnBy (commands_from 0 tasks) h
+  pub lists : ListsNameWritten g h (commands_from 0 tasks)
 
 -- The command with the number has drawn nothing.
 pub record IsFresh (h : List Happening) (number : ℕ) : Type 0 where
   pub no_event : events_of h (lane_zero number) ≡ []
   pub no_go : some_event h (is_go_of (lane_zero number)) ≡ false
 
--- Between two writes: no write is in flight, the marks are those of the journal, no later command has drawn anything, and no fault was told.
-pub record IsBetween (g : Geometry) (writes : List Write) (marks : List Bool) (h : List Happening) : Type 0 where
+-- Marks follow a journal that is in the era: they are valid and the origin's, their current set has the blocks that the journal marked in the era, and each block's last marked era is the journal's. No block is marked in a later era.
+pub record FollowJournal (g : Geometry) (m : BlockMarks) (era : ℕ) (h : List Happening) : Type 0 where
+  pub sectors : m.sectors ≡ g.sectors
+  pub block_sectors : m.block_sectors ≡ g.block_sectors
+  pub valid : AreValidMarks m
+  pub present : m.era ≡ era
+  pub current : (block : ℕ) → has m.current block ≡ is_marked_in h block era
+  pub lasts : (block : ℕ) → marks_last_era m block ≡ journal_last_era h block
+  pub none_later : (block later : ℕ) → era < later → is_marked_in h block later ≡ false
+
+-- A journal that is in the era marked what the commands wrote: a block's last marked era is the greatest in which a command wrote it.
+pub record MarksWritten (g : Geometry) (commands : List Command) (era : ℕ) (h : List Happening) : Type 0 where
+  pub stream_era : era ≡ era_behind commands
+  pub written : (since block : ℕ) → (max since 1 ≤ journal_last_era h block) ↔ IsWrittenSince g commands since block
+  pub bounded : (block : ℕ) → journal_last_era h block ≤ era
+  pub within : (block : ℕ) → blocks_of g.sectors g.block_sectors ≤ block → journal_last_era h block ≡ 0
+
+-- Between two commands: no write is in flight, the marks are those of the journal, no later command has drawn anything, and no fault was told.
+pub record IsBetween (g : Geometry) (tasks : List Task) (marks : BlockMarks) (era : ℕ) (h : List Happening) : Type 0 where
   pub quiet : in_flight h ≡ []
-  pub size : length marks ≡ blocks_of g.sectors g.block_sectors
-  pub marked : (block : ℕ) → slice_index_or marks block false ≡ is_marked_in h block 1
-  pub fresh : (number : ℕ) → length writes ≤ number → IsFresh h number
+  pub follow : FollowJournal g marks era h
+  pub stream : MarksWritten g (commands_from 0 tasks) era h
+  pub fresh : (number : ℕ) → length tasks ≤ number → IsFresh h number
   pub no_fault : (at_opening now : FaultyDisk → ℕ) → CountsAreWithin at_opening now h
   pub untold : (disk : FaultyDisk) → last_count h disk ≡ None
 

@@ -1,18 +1,22 @@
 -- Sessions: what one tells, how it may end, and what a sink has of its text.
-use Rattle.std.specs.Prelude.{◌≡◌, ◌⊎◌, ℕ, Bool, true, List, [], ◌∷◌, ◌++◌, take, codes, Option, Some, None, if◌then◌else◌}
+use Rattle.std.specs.Prelude.{◌≡◌, ◌⊎◌, ℕ, Bool, true, false, List, [], ◌∷◌, ◌++◌, take, codes, Option, Some, None, if◌then◌else◌}
+use Rattle.std.specs.List.{list_any}
 use Rattle.era_base.specs.declared.geometry.Geometry.{Geometry}
 use Rattle.era_base.specs.CrashModel.{State, IsClean}
 use Rattle.era_base.specs.Faults.{Rose}
 use Rattle.era_base.specs.Streams.{GivesFront}
 use Rattle.era_model.specs.declared.history.Happening.{Happening}
-use Rattle.era_model.specs.Commands.{Command}
+use Rattle.era_model.specs.declared.reply.Answer.{Answer}
+use Rattle.era_model.specs.declared.reply.Answer.TheVariants.{Memory as MemoryAnswer}
+use Rattle.era_model.specs.Commands.{Command, events_of, answer_of}
 use Rattle.era_model.specs.Counts.{CountsAreWithin}
 use Rattle.era_model.specs.History.{at_opening, era_of, in_flight, next_place}
 use Rattle.era_model.specs.Journal.{session_opening}
 use Rattle.era_model.specs.Legal.{IsLegal}
 use Rattle.era_model.specs.SessionRun.{IsRun}
+use Rattle.era_model.specs.StreamLists.{IsWrittenSince, ListsNameWritten}
 use Rattle.era_model.specs.Transcript.{Stop, ReadToEnd, RefusedLine, SourceFault, NoMemory, replies_text, stop_line, end_line, session_transcript}
-use Rattle.era_plan.specs.declared.round.Write.{Write}
+use Rattle.era_plan.specs.declared.task.Task.{Task}
 use Rattle.era_plan.specs.declared.round.PlanError.{PlanError}
 use Rattle.era_plan.specs.declared.round.PlanError.TheVariants.{Line as LineError, Source as SourceError, Memory as MemoryError}
 use Rattle.era_plan.specs.Grammar.{lines_of}
@@ -20,7 +24,7 @@ use Rattle.era_plan.specs.Rounds.{SpellRound, IsFirstRefused, IsReadInFront}
 use Rattle.era_top.specs.declared.status.Status.{Status}
 use Rattle.era_top.specs.declared.status.Status.TheVariants.{Done, Line, Fault, Memory, Source, Sink}
 use Rattle.era_top.specs.declared.outcome.Outcome.{Outcome}
-use Rattle.era_top.specs.Runs.{commands_from, some_cut, ReadsAsJournal}
+use Rattle.era_top.specs.Runs.{commands_from, some_cut, some_lack, ReadsAsJournal}
 
 -- What a session tells: its journal, the commands that it answered, and why it stopped reading.
 pub record Session : Type 0 where
@@ -44,22 +48,39 @@ pub record Around : Type 0 where
   pub disk : State
   pub disk' : State
 
--- The journal of a session is legal, it opened as a first session of an origin with these contents, its events are those of the commands that were answered, each fault that it tells is one of the disk in this session, and the origin reads as it says.
+-- The journal of a session is legal, it opened as a first session of an origin with these contents, its events are those of the commands that were answered, each list names exactly the blocks that were written since its era, each fault that it tells is one of the disk in this session, and the origin reads as it says.
 pub record IsSession (g : Geometry) (contents : List ℕ) (around : Around) (session : Session) : Type 0 where
   pub opened : at_opening None (λ opening. Some opening) session.journal ≡ Some (session_opening g contents)
   pub legal : IsLegal session.journal
   pub run : IsRun session.journal (session.commands ∷ [])
+  pub lists : ListsNameWritten g session.journal session.commands
   pub counts : CountsAreWithin (λ _. around.disk_faults) (λ _. around.disk_faults') session.journal
   pub reads : around.tells ≡ true → contents ≡ around.disk.seen → ReadsAsJournal g session.journal around.disk'.seen
 
--- The stream was read to its end: its lines spell writes, and those that were answered are the first of them.
+-- The stream was read to its end: its lines spell tasks, and those that were answered are the first of them.
 pub record HasReadAll (around : Around) (session : Session) : Type 0 where
-  pub writes : List Write
+  pub tasks : List Task
   pub answered : ℕ
-  pub spelled : (text : List ℕ) → around.left ≡ Some text → SpellRound (lines_of text) writes
-  pub commands : session.commands ≡ commands_from 0 (take answered writes)
+  pub spelled : (text : List ℕ) → around.left ≡ Some text → SpellRound (lines_of text) tasks
+  pub commands : session.commands ≡ commands_from 0 (take answered tasks)
   pub stop : session.stop ≡ ReadToEnd
-  pub whole : in_flight session.journal ≡ [] → take answered writes ≡ writes
+  pub whole : in_flight session.journal ≡ [] → take answered tasks ≡ tasks
+
+-- Each command of the stream was answered and no write is in flight, the disk didn't fail, and with a write in range nothing is pending on it.
+pub record HasDoneAll (g : Geometry) (around : Around) (session : Session) : Type 0 where
+  pub read : HasReadAll around session
+  pub quiet : in_flight session.journal ≡ []
+  pub clean : around.tells ≡ true → (block : ℕ) → IsWrittenSince g session.commands 1 block → IsClean around.disk'
+  pub kept : around.disk_faults' ≡ around.disk_faults
+
+-- Whether an answer says that memory was refused.
+abbrev pub says_memory : Answer → Bool
+says_memory MemoryAnswer = true
+says_memory answer = false
+
+-- Whether one of the commands was answered that memory was refused.
+abbrev pub some_says_memory : List Happening → List Command → Bool
+some_says_memory h commands = list_any (λ command. says_memory (answer_of (events_of h command.id))) commands
 
 -- No command was run, and the disk is as it was.
 pub record HasRunNothing (around : Around) (session : Session) : Type 0 where
@@ -67,23 +88,23 @@ pub record HasRunNothing (around : Around) (session : Session) : Type 0 where
   pub no_event : next_place session.journal ≡ 0
   pub same : around.tells ≡ true → around.disk' ≡ around.disk
 
--- A session may end so, with this cause: every command answered and on the disk; the origin failed; a line was refused; the source failed in front of the end of any refused line; memory was refused; the sink failed before anything was read.
-abbrev pub EndsBy : Around → Session → Status → Type 0
-EndsBy around session Done =
-    HasReadAll around session × (in_flight session.journal ≡ [])
-    × (around.tells ≡ true → (next_place session.journal ≡ 0 → ⊥) → IsClean around.disk')
-    × (around.disk_faults' ≡ around.disk_faults)
-EndsBy around session Fault = HasReadAll around session × Rose around.disk_faults around.disk_faults'
-EndsBy around session Line =
+-- A session may end so, with this cause: every command answered and on the disk, each list with its blocks; the origin failed; a line was refused; the source failed in front of the end of any refused line; memory was refused for the round, or for a list; the sink failed before anything was read.
+abbrev pub EndsBy : Geometry → Around → Session → Status → Type 0
+EndsBy g around session Done =
+    HasDoneAll g around session × (some_says_memory session.journal session.commands ≡ false)
+EndsBy g around session Fault = HasReadAll around session × Rose around.disk_faults around.disk_faults'
+EndsBy g around session Line =
     HasRunNothing around session
     × ((line : ℕ) × (session.stop ≡ RefusedLine line (codes "NotYet"))
     × ((text : List ℕ) → around.left ≡ Some text → IsFirstRefused (lines_of text) line))
-EndsBy around session Source =
+EndsBy g around session Source =
     HasRunNothing around session × (session.stop ≡ SourceFault around.source_faults') × Rose around.source_faults around.source_faults'
     × ((text : List ℕ) → around.left ≡ Some text → IsReadInFront text around.left')
-EndsBy around session Memory = HasRunNothing around session × (session.stop ≡ NoMemory)
-EndsBy around session Sink = HasRunNothing around session
-EndsBy around session status = ⊥
+EndsBy g around session Memory =
+    (HasRunNothing around session × (session.stop ≡ NoMemory))
+    ⊎ (HasDoneAll g around session × (some_says_memory session.journal session.commands ≡ true))
+EndsBy g around session Sink = HasRunNothing around session
+EndsBy g around session status = ⊥
 
 -- A text was given, and the run ends as it says; or the sink failed after a front of it.
 abbrev pub Prints : Option (List ℕ) → Option (List ℕ) → List ℕ → Status → Status → Type 0
@@ -96,7 +117,7 @@ pub record Goes (g : Geometry) (contents : List ℕ) (around : Around) (given gi
   pub session : Session
   pub ended : Status
   pub right : IsSession g contents around session
-  pub cause : EndsBy around session ended
+  pub cause : EndsBy g around session ended
   pub printed : Prints given given' (session_text session) ended result
 
 -- The counts that rose where a run ended so.
@@ -116,7 +137,7 @@ pub record GoesOn (g : Geometry) (contents : List ℕ) (around : Around) (given 
   pub session : Session
   pub ended : Status
   pub right : IsSession g contents around session
-  pub cause : EndsBy around session ended
+  pub cause : EndsBy g around session ended
   pub printed : Prints given given' (text_behind_open session) ended result
 
 -- How a session stops where its stream gives no round.
@@ -125,9 +146,9 @@ stop_of (LineError error) = RefusedLine error.line (codes "NotYet")
 stop_of (SourceError count) = SourceFault count
 stop_of MemoryError = NoMemory
 
--- The status of a session whose writes were run: the origin failed where one of them was cut.
+-- The status of a session whose commands were run: the origin failed where a write was cut, else memory was refused where it was for a list.
 abbrev pub round_status : List Outcome → Status
-round_status outcomes = if some_cut outcomes then Fault else Done
+round_status outcomes = if some_cut outcomes then Fault else if some_lack outcomes then Memory else Done
 
 -- The status of a session whose stream gives no round.
 abbrev pub status_of : PlanError → Status

@@ -1,17 +1,25 @@
--- What running writes does to the marks in memory and to the disk.
-use Rattle.std.specs.Prelude.{◌≡◌, ℕ, ◌+◌, ◌*◌, ◌/◌, ◌<◌, ◌≤◌, not, ◌||◌, Bool, true, false, List, [], ◌∷◌, length, take, slice_index_or, slice_set, Some, None}
+-- What running commands does to the marks in memory and to the disk.
+use Rattle.std.specs.Prelude.{◌≡◌, ℕ, ◌+◌, ◌*◌, ◌/◌, ◌<◌, ◌≤◌, not, Bool, true, false, List, [], length, take, Some, None}
 use Rattle.era_base.specs.declared.geometry.Geometry.{Geometry}
 use Rattle.era_base.specs.Bytes.{splice}
 use Rattle.era_base.specs.CrashModel.{State, SameBut, IsClean}
 use Rattle.era_base.specs.Faults.{Rose}
 use Rattle.era_base.specs.Geometry.{blocks_of}
 use Rattle.era_model.specs.declared.history.Happening.{Happening}
+use Rattle.era_model.specs.Conditions.{ListsExactly}
 use Rattle.era_model.specs.Counts.{CountsAreWithin}
-use Rattle.era_model.specs.History.{in_flight}
-use Rattle.era_plan.specs.declared.round.Write.{Write}
+use Rattle.era_model.specs.History.{era_of, in_flight}
+use Rattle.era_model.specs.MarkLaws.{LastsAreBounded, MarkGivesEra, SwitchKeepsMarks}
+use Rattle.era_model.specs.Marks.{BlockMarks, blocks_of_marks, has, rolled, with_block, written_since}
+use Rattle.era_model.specs.StreamLists.{IsWrittenSince}
+use Rattle.era_plan.specs.declared.task.Request.{Request}
+use Rattle.era_plan.specs.declared.task.Request.TheVariants.{Checkpoint, ListSince}
+use Rattle.era_plan.specs.declared.task.Task.{Task}
+use Rattle.era_plan.specs.declared.task.Task.TheVariants.{Write as WriteTask, Ask}
+use Rattle.era_plan.specs.declared.task.Write.{Write}
 use Rattle.era_top.specs.declared.outcome.Outcome.{Outcome}
-use Rattle.era_top.specs.declared.outcome.Outcome.TheVariants.{OutOfRange, Done, Cut}
-use Rattle.era_top.specs.Runs.{place_of_write, some_cut, IsJournalOf, ReadsAsJournal}
+use Rattle.era_top.specs.declared.outcome.Outcome.TheVariants.{OutOfRange, Done, Cut, Moved, LastEra, Listed, NoMemory}
+use Rattle.era_top.specs.Runs.{commands_from, place_of_write, some_cut, IsJournalOf, ReadsAsJournal}
 
 -- The write's sectors lie in a block, from a sector of it on.
 pub record IsPlaced (g : Geometry) (write : Write) (place : ℕ × ℕ) : Type 0 where
@@ -21,12 +29,14 @@ pub record IsPlaced (g : Geometry) (write : Write) (place : ℕ × ℕ) : Type 0
   pub in_block : place.1 + length write.bytes / 512 ≤ g.block_sectors
   pub in_origin : write.sector + length write.bytes / 512 ≤ g.sectors
 
--- The write lies in a block, and marks it exactly where the block has no mark.
-pub record Marks (g : Geometry) (write : Write) (old new : List Bool) (marks : Bool) : Type 0 where
+-- The write lies in a block, and marks it exactly where the block has no mark of the era.
+pub record Marks (g : Geometry) (write : Write) (old new : BlockMarks) (marks : Bool) : Type 0 where
   pub place : ℕ × ℕ
   pub placed : IsPlaced g write place
-  pub was : slice_index_or old place.0 false ≡ not marks
-  pub now : new ≡ slice_set old place.0 true
+  pub was : has old.current place.0 ≡ not marks
+  pub now : new ≡ with_block old place.0
+  pub lasts : MarkGivesEra old place.0
+  pub bounded : LastsAreBounded old
 
 -- What is on the disk after a write and a sync.
 pub record IsStored (write : Write) (old new : State) : Type 0 where
@@ -43,34 +53,51 @@ pub record TellsFault (before now told : ℕ) : Type 0 where
   pub rose : Rose before now
 
 -- How one write changed the marks, the disk's count of faults and, where the disk tells it, its state.
-abbrev pub Went : Geometry → Write → Bool → List Bool → List Bool → ℕ → ℕ → State → State → Outcome → Type 0
+abbrev pub Went : Geometry → Write → Bool → BlockMarks → BlockMarks → ℕ → ℕ → State → State → Outcome → Type 0
 Went g write tells marks marks' faults faults' disk disk' OutOfRange =
     (place_of_write g write ≡ None) × (marks' ≡ marks) × (faults' ≡ faults) × (tells ≡ true → disk' ≡ disk)
 Went g write tells marks marks' faults faults' disk disk' (Done first) =
     Marks g write marks marks' first × (faults' ≡ faults) × (tells ≡ true → IsStored write disk disk')
 Went g write tells marks marks' faults faults' disk disk' (Cut first told) =
     Marks g write marks marks' first × TellsFault faults faults' told × (tells ≡ true → IsTorn write disk disk')
+Went g write tells marks marks' faults faults' disk disk' outcome = ⊥
 
--- Whether the write was issued to the disk.
-abbrev pub is_issued : Outcome → Bool
-is_issued OutOfRange = false
-is_issued (Done marks) = true
-is_issued (Cut marks faults) = true
+-- How a checkpoint changed the marks: they moved to the next era, which the outcome tells, or the era is the last one and nothing changed.
+abbrev pub MovesEra : BlockMarks → BlockMarks → Outcome → Type 0
+MovesEra marks marks' (Moved era) =
+    (marks.era < 4294967295) × (era ≡ marks.era + 1) × (marks' ≡ rolled marks) × SwitchKeepsMarks marks
+MovesEra marks marks' LastEra = (marks.era ≡ 4294967295) × (marks' ≡ marks)
+MovesEra marks marks' outcome = ⊥
 
--- Whether one of the writes was issued to the disk.
-abbrev pub some_issued : List Outcome → Bool
-some_issued [] = false
-some_issued (outcome ∷ outcomes) = is_issued outcome || some_issued outcomes
+-- What a list since an era tells: exactly the blocks that the marks have since it, or that memory was refused.
+abbrev pub TellsBlocks : BlockMarks → ℕ → Outcome → Type 0
+TellsBlocks marks since (Listed blocks) = ListsExactly (blocks_of_marks marks) (written_since marks since) blocks
+TellsBlocks marks since NoMemory = Unit {0}
+TellsBlocks marks since outcome = ⊥
 
--- Writes were run in order, up to the first that was cut, with the journal of those that were run: what the disk's count of faults did, what the origin reads as, and that nothing is pending after the last write in range.
-pub record HaveRun (g : Geometry) (contents : List ℕ) (writes : List Write) (outcomes : List Outcome) (tells : Bool) (faults faults' : ℕ) (disk disk' : State) (h : List Happening) : Type 0 where
-  pub count : length outcomes ≤ length writes
-  pub whole : some_cut outcomes ≡ false → length outcomes ≡ length writes
-  pub journal : IsJournalOf g contents (take (length outcomes) writes) outcomes h
+-- How a request went. A list changes no mark.
+abbrev pub AnswersRequest : BlockMarks → BlockMarks → Request → Outcome → Type 0
+AnswersRequest marks marks' Checkpoint outcome = MovesEra marks marks' outcome
+AnswersRequest marks marks' (ListSince since) outcome = (marks' ≡ marks) × TellsBlocks marks since outcome
+
+-- How a task changed the marks, the disk's count of faults and, where the disk tells it, its state. A request leaves the disk alone.
+abbrev pub TaskWent : Geometry → Task → Bool → BlockMarks → BlockMarks → ℕ → ℕ → State → State → Outcome → Type 0
+TaskWent g (WriteTask write) tells marks marks' faults faults' disk disk' outcome =
+    Went g write tells marks marks' faults faults' disk disk' outcome
+TaskWent g (Ask request) tells marks marks' faults faults' disk disk' outcome =
+    AnswersRequest marks marks' request outcome × (faults' ≡ faults) × (disk' ≡ disk)
+
+-- Commands were run in order, up to the first write that was cut, with the journal of those that were run, which is in this era: what the disk's count of faults did, what the origin reads as, and that nothing is pending after the last write in range.
+pub record HaveRun (g : Geometry) (contents : List ℕ) (tasks : List Task) (outcomes : List Outcome) (tells : Bool) (era faults faults' : ℕ) (disk disk' : State) (h : List Happening) : Type 0 where
+  pub count : length outcomes ≤ length tasks
+  pub whole : some_cut outcomes ≡ false → length outcomes ≡ length tasks
+  pub journal : IsJournalOf g contents (take (length outcomes) tasks) outcomes h
+  pub present : era ≡ era_of h
   pub counts : CountsAreWithin (λ _. faults) (λ _. faults') h
   pub rose : some_cut outcomes ≡ true → Rose faults faults'
   pub kept : some_cut outcomes ≡ false → faults' ≡ faults
   pub quiet : some_cut outcomes ≡ false → in_flight h ≡ []
   pub stopped : some_cut outcomes ≡ true → in_flight h ≡ [] → ⊥
   pub reads : tells ≡ true → contents ≡ disk.seen → ReadsAsJournal g h disk'.seen
-  pub clean : tells ≡ true → some_cut outcomes ≡ false → some_issued outcomes ≡ true → IsClean disk'
+  pub clean : tells ≡ true → some_cut outcomes ≡ false
+      → (block : ℕ) → IsWrittenSince g (commands_from 0 (take (length outcomes) tasks)) 1 block → IsClean disk'

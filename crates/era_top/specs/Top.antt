@@ -2,7 +2,7 @@
 use Rattle.std.specs.Prelude.{◌≡◌, ◌⊎◌, ℕ, ◌<◌, ◌≤◌, List, Option, Some}
 use Rattle.era_base.specs.Geometry.{IsBlockSize, blocks_of}
 use Rattle.era_line.specs.declared.table_line.TableLine.{TableLine}
-use Rattle.era_plan.specs.declared.round.Write.{Write}
+use Rattle.era_plan.specs.declared.task.Task.{Task}
 use Rattle.era_plan.specs.Grammar.{lines_of}
 use Rattle.era_plan.specs.Rounds.{SpellRound}
 use Rattle.era_top.specs.declared.status.Status.{Status}
@@ -43,5 +43,5 @@ pub record IsServable (words : List (List ℕ)) (sizes : List ℕ → Option ℕ
   pub large_enough : (have : ℕ) → sizes line.origin ≡ Some have → line.length ≤ have
   pub text : List ℕ
   pub stream : left ≡ Some text
-  pub writes : List Write
-  pub spelled : SpellRound (lines_of text) writes
+  pub tasks : List Task
+  pub spelled : SpellRound (lines_of text) tasks

@@ -1,12 +1,22 @@
-//! How one write of the stream went.
+//! How one command of the stream went.
 
-/// How one write of the stream went.
-#[derive(Clone, Copy, Debug, PartialEq, Eq)]
+use era_base::Runs;
+
+/// How one command of the stream went.
+#[derive(Debug, Drop)]
 pub enum Outcome {
-    /// Its sectors lie in no one block of the origin.
+    /// The sectors of the write lie in no one block of the origin.
     OutOfRange,
-    /// It is on the disk. `marks` tells whether it was the first write to its block in the era, which marks the block.
+    /// The write is on the disk. `marks` tells whether it was the first one to its block in the era, which marks it.
     Done { marks: bool },
-    /// The origin failed, and this is its count of faults.
+    /// The origin failed at the write, and this is its count of faults.
     Cut { marks: bool, faults: u64 },
+    /// The checkpoint moved the session to this era.
+    Moved { era: u32 },
+    /// The era is the last one, 4294967295, and the checkpoint left it.
+    LastEra,
+    /// The list names these blocks.
+    Listed { blocks: Runs },
+    /// Memory for the list was refused.
+    NoMemory,
 }

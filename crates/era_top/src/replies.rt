@@ -5,11 +5,12 @@ ghost use Rattle.era_base.specs.Faults.{HasCause};
 ghost use Rattle.era_base.specs.Streams.{GivesTo};
 ghost use Rattle.era_top.specs.Outcomes.{event_count, outcome_line, outcomes_text};
 
+use crate::block_list::give_runs;
 use crate::events::count_events;
 use crate::outcome::Outcome;
 use crate::part::Part::{Number, Text};
 use crate::parts::give_parts;
-use era_base::{Failed, Sink};
+use era_base::{Failed, Runs, Sink};
 
 /// Gives the reply of a write that went through, with its events from a place on.
 fn give_done<K: Sink>(sink: &mut K, line: u64, place: u64, marks: bool) -> Result<(), Failed>
@@ -95,20 +96,62 @@ fn give_cut<K: Sink>(
     }
 }
 
-/// Gives the reply of one write.
-fn give_reply<K: Sink>(sink: &mut K, line: u64, place: u64, outcome: Outcome) -> Result<(), Failed>
+/// Gives the reply of a list that names blocks, with its event at a place.
+fn give_list<K: Sink>(sink: &mut K, line: u64, place: u64, blocks: &Runs) -> Result<(), Failed>
+    ensures given { GivesTo (K.given sink.old) (K.given sink.new) (outcome_line line place (Outcome.Listed blocks.now)) result }
+    ensures cause { HasCause (K.faults sink.old) (K.faults sink.new) result }
+{
+    let Ok(()) = give_parts(sink, &[Number(line), Text(b" blocks ")]) else {
+        return Err(Failed);
+    };
+    let Ok(()) = give_runs(sink, blocks.as_slice()) else {
+        return Err(Failed);
+    };
+    give_parts(sink, &[Text(b" l"), Number(place), Text(b"\n")])
+}
+
+/// Gives the reply of a checkpoint that moved to an era, with its event at a place.
+fn give_era<K: Sink>(sink: &mut K, line: u64, place: u64, era: u32) -> Result<(), Failed>
+    ensures given { GivesTo (K.given sink.old) (K.given sink.new) (outcome_line line place (Outcome.Moved era)) result }
+    ensures cause { HasCause (K.faults sink.old) (K.faults sink.new) result }
+{
+    give_parts(
+        sink,
+        &[
+            Number(line),
+            Text(b" era "),
+            Number(u64::from(era)),
+            Text(b" e"),
+            Number(place),
+            Text(b"\n"),
+        ],
+    )
+}
+
+/// Gives the reply of one command.
+fn give_reply<K: Sink>(sink: &mut K, line: u64, place: u64, outcome: &Outcome) -> Result<(), Failed>
     requires { place + 4 < 2 ^ 64 }
-    ensures given { GivesTo (K.given sink.old) (K.given sink.new) (outcome_line line place outcome) result }
+    ensures given { GivesTo (K.given sink.old) (K.given sink.new) (outcome_line line place outcome.now) result }
     ensures cause { HasCause (K.faults sink.old) (K.faults sink.new) result }
 {
     match outcome {
         Outcome::OutOfRange => give_parts(sink, &[Number(line), Text(b" range\n")]),
-        Outcome::Done { marks } => give_done(sink, line, place, marks),
-        Outcome::Cut { marks, faults } => give_cut(sink, line, place, marks, faults),
+        Outcome::Done { marks } => give_done(sink, line, place, *marks),
+        Outcome::Cut { marks, faults } => give_cut(sink, line, place, *marks, *faults),
+        Outcome::Moved { era } => give_era(sink, line, place, *era),
+        Outcome::LastEra => give_parts(
+            sink,
+            &[Number(line), Text(b" end f"), Number(place), Text(b"\n")],
+        ),
+        Outcome::Listed { blocks } => give_list(sink, line, place, blocks),
+        Outcome::NoMemory => give_parts(
+            sink,
+            &[Number(line), Text(b" memory f"), Number(place), Text(b"\n")],
+        ),
     }
 }
 
-/// Gives the replies of all writes in order, the first of them for line 1 and with its events from place 0 on.
+/// Gives the replies of all commands in order, the first of them for line 1 and with its events from place 0 on.
 pub fn give_replies<K: Sink>(sink: &mut K, outcomes: &[Outcome]) -> Result<(), Failed>
     requires { length outcomes.now ≤ 4096 }
     ensures given { GivesTo (K.given sink.old) (K.given sink.new) (outcomes_text 1 0 outcomes.now) result }
@@ -117,11 +160,11 @@ pub fn give_replies<K: Sink>(sink: &mut K, outcomes: &[Outcome]) -> Result<(), F
     let mut line = 1;
     let mut place = 0;
     for outcome in outcomes {
-        let Ok(()) = give_reply(sink, line, place, *outcome) else {
+        let Ok(()) = give_reply(sink, line, place, outcome) else {
             return Err(Failed);
         };
         line += 1;
-        place += count_events(*outcome);
+        place += count_events(outcome);
     }
     Ok(())
 }

@@ -1,16 +1,16 @@
-//! One round of a session: its writes are run, and their replies are given.
+//! One round of a session: its commands are run, and their replies are given.
 
-ghost use Rattle.std.specs.Prelude.{◌≡◌, ◌+◌, ◌*◌, ◌<◌, ◌≤◌, ℕ, List, Option, Some, [], ◌++◌, length, replicate, false, true, vec_len, vec_capacity, IfOk};
-ghost use Rattle.era_base.specs.Geometry.{blocks_of};
+ghost use Rattle.std.specs.Prelude.{◌≡◌, ◌+◌, ◌*◌, ◌<◌, ◌≤◌, ℕ, List, Option, Some, [], ◌++◌, length, true, vec_len, vec_capacity, IfOk};
+ghost use Rattle.era_model.specs.Marks.{no_marks};
 ghost use Rattle.era_plan.specs.Grammar.{lines_of};
 ghost use Rattle.era_plan.specs.Rounds.{SpellRound, IsWithinLimits};
 ghost use Rattle.era_base.specs.Faults.{Rose};
 ghost use Rattle.era_model.specs.Transcript.{ReadToEnd, stop_line, end_line};
 ghost use Rattle.era_top.specs.Outcomes.{outcomes_text, total_events};
-ghost use Rattle.era_top.specs.Runs.{some_cut};
+ghost use Rattle.era_top.specs.Runs.{some_cut, some_lack};
 ghost use Rattle.era_top.specs.Sessions.{GoesOn, Prints, round_status};
 
-use crate::events::{count_events, is_cut};
+use crate::events::{count_events, is_cut, is_lack};
 use crate::outcome::Outcome;
 use crate::part::Part::{Number, Text};
 use crate::replies::give_replies;
@@ -18,39 +18,64 @@ use crate::run::run;
 use crate::session_lines::{give_last, give_stop};
 use crate::status::Status;
 use era_base::{Disk, Geometry, Memory, Sink};
+use era_marks::SessionMarks;
 use era_plan::{CommandList, PlanError};
 use std::alloc::Global;
 
-/// Takes all memory of a round: a flag for each block, and room for as many outcomes.
-fn take_room(alloc: Global, blocks: u32, count: usize) -> Result<(Vec<bool>, Vec<Outcome>), Memory>
-    ensures marks { IfOk result (λ room. room.0.items ≡ replicate blocks false) }
+/// Takes all memory of a round but for the runs of its lists: the marks of era 1, and room for as many outcomes.
+fn take_room(
+    alloc: Global,
+    geometry: &Geometry,
+    count: usize,
+) -> Result<(SessionMarks, Vec<Outcome>), Memory>
+    ensures marks { IfOk result (λ room. room.0 ≡ no_marks geometry.now.sectors geometry.now.block_sectors 1) }
     ensures outcomes { IfOk result (λ room. (room.1.items ≡ []) × (vec_capacity room.1 ≡ count)) }
 {
-    let marks = vec![in alloc; false; blocks as usize]?;
+    let marks = SessionMarks::new(alloc, geometry, 1)?;
     let outcomes = Vec::with_capacity(alloc, count)?;
     Ok((marks, outcomes))
 }
 
-/// How many events writes had together.
+/// How many events commands had together.
 fn count_all_events(outcomes: &[Outcome]) -> u64
     requires { length outcomes.now ≤ 4096 }
     ensures { result ≡ total_events outcomes.now }
 {
-    outcomes.iter().map(|outcome| count_events(*outcome)).sum()
+    outcomes.iter().map(|outcome| count_events(outcome)).sum()
 }
 
 /// Whether one of the writes was cut.
 fn has_cut(outcomes: &[Outcome]) -> bool
     ensures { result ≡ some_cut outcomes.now }
 {
-    outcomes.iter().any(|outcome| is_cut(*outcome))
+    outcomes.iter().any(|outcome| is_cut(outcome))
 }
 
-/// Gives the replies of a round and the last line of the session, and tells how it ended.
-fn give_round<K: Sink>(sink: &mut K, outcomes: &[Outcome]) -> Status
+/// Whether memory for one of the lists was refused.
+fn has_lack(outcomes: &[Outcome]) -> bool
+    ensures { result ≡ some_lack outcomes.now }
+{
+    outcomes.iter().any(|outcome| is_lack(outcome))
+}
+
+/// The status of a session whose commands were run.
+fn status_of_round(outcomes: &[Outcome]) -> Status
+    ensures { result ≡ round_status outcomes.now }
+{
+    if has_cut(outcomes) {
+        Status::Fault
+    } else if has_lack(outcomes) {
+        Status::Memory
+    } else {
+        Status::Done
+    }
+}
+
+/// Gives the replies of a round and the last line of the session, which is in this era, and tells how it ended.
+fn give_round<K: Sink>(sink: &mut K, outcomes: &[Outcome], era: u32) -> Status
     requires { length outcomes.now ≤ 4096 }
     ensures printed { Prints (K.given sink.old) (K.given sink.new)
-        (outcomes_text 1 0 outcomes.now ++ (stop_line ReadToEnd ++ end_line 1 (total_events outcomes.now)))
+        (outcomes_text 1 0 outcomes.now ++ (stop_line ReadToEnd ++ end_line era (total_events outcomes.now)))
         (round_status outcomes.now) result }
     ensures rose { result ≡ Status.Sink → Rose (K.faults sink.old) (K.faults sink.new) }
     ensures cut { result ≡ Status.Fault → some_cut outcomes.now ≡ true }
@@ -59,24 +84,21 @@ fn give_round<K: Sink>(sink: &mut K, outcomes: &[Outcome]) -> Status
     let Ok(()) = give_replies(sink, outcomes) else {
         return Status::Sink;
     };
-    let ended = if has_cut(outcomes) {
-        Status::Fault
-    } else {
-        Status::Done
-    };
     give_last(
         sink,
         &[
-            Text(b"end 1 "),
+            Text(b"end "),
+            Number(u64::from(era)),
+            Text(b" "),
             Number(count_all_events(outcomes)),
             Text(b"\n"),
         ],
-        ended,
+        status_of_round(outcomes),
     )
 }
 
-/// Runs the writes of a round over an origin, and gives their replies and the last line of the session. All memory is
-/// taken before the first write.
+/// Runs the commands of a round over an origin, and gives their replies and the last line of the session. All memory but
+/// for the runs of lists is taken before the first command.
 pub fn serve_round<K: Sink, D: Disk>(
     alloc: Global,
     geometry: &Geometry,
@@ -107,15 +129,16 @@ pub fn serve_round<K: Sink, D: Disk>(
     ensures size { D.sectors disk.new ≡ D.sectors disk.old }
     ensures place { D.place disk.new ≡ D.place disk.old }
 {
-    let Ok((mut marks, mut outcomes)) = take_room(alloc, geometry.blocks(), commands.len()) else {
+    let Ok((mut marks, mut outcomes)) = take_room(alloc, geometry, commands.len()) else {
         return give_stop(sink, PlanError::Memory);
     };
     run(
+        alloc,
         geometry,
         commands.as_slice(),
         &mut marks,
         &mut outcomes,
         disk,
     );
-    give_round(sink, outcomes.as_slice())
+    give_round(sink, outcomes.as_slice(), marks.era())
 }

@@ -1,39 +1,42 @@
-//! Runs the writes of a round, one after another, up to the first that the origin fails.
+//! Runs the commands of a round, one after another, up to the first write that the origin fails.
 
-ghost use Rattle.std.specs.Prelude.{◌≡◌, ◌+◌, ◌*◌, ◌<◌, ◌≤◌, ℕ, List, [], length, vec_len, vec_capacity, replicate, true, false, All};
+ghost use Rattle.std.specs.Prelude.{◌≡◌, ◌*◌, ◌<◌, ◌≤◌, ℕ, List, [], length, vec_len, vec_capacity, All};
 ghost use Rattle.era_base.specs.Geometry.{blocks_of};
+ghost use Rattle.era_model.specs.Marks.{blocks_of_marks, no_marks};
 ghost use Rattle.era_model.specs.declared.history.Happening.{Happening as happening};
-ghost use Rattle.era_plan.specs.Grammar.{IsPayload};
-ghost use Rattle.era_top.specs.Steps.{Went, HaveRun};
+ghost use Rattle.era_plan.specs.Grammar.{HasPayload, IsPayload};
+ghost use Rattle.era_top.specs.Steps.{AnswersRequest, HaveRun, MovesEra, TaskWent, TellsBlocks, Went};
 
 use crate::events::is_cut;
 use crate::outcome::Outcome;
 use crate::put::put;
 use era_base::{Disk, Geometry};
-use era_plan::Write;
+use era_marks::SessionMarks;
+use era_plan::{Request, Task, Write};
+use std::alloc::Global;
 
 /// Runs one write: it marks its block in memory, and writes and syncs its bytes. Out of range it does nothing.
 fn run_write<D: Disk>(
     geometry: &Geometry,
     write: &Write,
-    marks: &mut Vec<bool>,
+    marks: &mut SessionMarks,
     disk: &mut D,
 ) -> Outcome
     requires payload { IsPayload (length write.now.bytes) }
-    requires marks { vec_len marks.old ≡ blocks_of geometry.now.sectors geometry.now.block_sectors }
+    requires marks { blocks_of_marks marks.old ≡ blocks_of geometry.now.sectors geometry.now.block_sectors }
     requires disk { D.sectors disk.old ≡ geometry.now.sectors }
-    ensures went { Went geometry.now write.now D.tells marks.old.items marks.new.items
+    ensures went { Went geometry.now write.now D.tells marks.old marks.new
         (D.faults disk.old) (D.faults disk.new) (D.history disk.old).now (D.history disk.new).now result }
     ensures size { D.sectors disk.new ≡ D.sectors disk.old }
     ensures place { D.place disk.new ≡ D.place disk.old }
-    ensures marks { vec_len marks.new ≡ vec_len marks.old }
+    ensures marks { blocks_of_marks marks.new ≡ blocks_of_marks marks.old }
 {
     let bytes = write.bytes.as_slice();
     let Some((block, _)) = geometry.place_of(write.sector, (bytes.len() / 512) as u64) else {
         return Outcome::OutOfRange;
     };
-    let first = !marks[block as usize];
-    marks[block as usize] = true;
+    let first = !marks.is_marked(block);
+    marks.mark(block);
     match put(disk, write.sector, bytes) {
         Ok(()) => Outcome::Done { marks: first },
         Err(faults) => Outcome::Cut {
@@ -43,29 +46,89 @@ fn run_write<D: Disk>(
     }
 }
 
-/// Runs writes in their order, up to the first that is cut. `outcomes` gets how each of them went; it takes no memory.
-pub fn run<D: Disk>(
+/// Moves to the next era, below the last one.
+fn run_checkpoint(marks: &mut SessionMarks) -> Outcome
+    ensures moved { MovesEra marks.old marks.new result }
+    ensures marks { blocks_of_marks marks.new ≡ blocks_of_marks marks.old }
+{
+    if marks.era() == u32::MAX {
+        return Outcome::LastEra;
+    }
+    marks.roll();
+    Outcome::Moved { era: marks.era() }
+}
+
+/// Lists the blocks that were written since an era.
+fn run_list(alloc: Global, marks: &SessionMarks, since: u32) -> Outcome
+    ensures { TellsBlocks marks.now since result }
+{
+    match marks.since(alloc, since) {
+        Ok(blocks) => Outcome::Listed { blocks },
+        Err(_) => Outcome::NoMemory,
+    }
+}
+
+/// Does what a command asks of the marks.
+fn run_request(alloc: Global, request: Request, marks: &mut SessionMarks) -> Outcome
+    ensures answered { AnswersRequest marks.old marks.new request result }
+    ensures marks { blocks_of_marks marks.new ≡ blocks_of_marks marks.old }
+{
+    match request {
+        Request::Checkpoint => run_checkpoint(marks),
+        Request::ListSince(since) => run_list(alloc, marks, since),
+    }
+}
+
+/// Runs one command.
+fn run_task<D: Disk>(
+    alloc: Global,
     geometry: &Geometry,
-    writes: &[Write],
-    marks: &mut Vec<bool>,
+    task: &Task,
+    marks: &mut SessionMarks,
+    disk: &mut D,
+) -> Outcome
+    requires payload { HasPayload task.now }
+    requires marks { blocks_of_marks marks.old ≡ blocks_of geometry.now.sectors geometry.now.block_sectors }
+    requires disk { D.sectors disk.old ≡ geometry.now.sectors }
+    ensures went { TaskWent geometry.now task.now D.tells marks.old marks.new
+        (D.faults disk.old) (D.faults disk.new) (D.history disk.old).now (D.history disk.new).now result }
+    ensures size { D.sectors disk.new ≡ D.sectors disk.old }
+    ensures place { D.place disk.new ≡ D.place disk.old }
+    ensures marks { blocks_of_marks marks.new ≡ blocks_of_marks marks.old }
+{
+    match task {
+        Task::Write(write) => run_write(geometry, write, marks, disk),
+        Task::Ask(request) => run_request(alloc, *request, marks),
+    }
+}
+
+/// Runs commands in their order, up to the first write that is cut. `outcomes` gets how each of them went. It takes
+/// memory for the runs of lists alone.
+pub fn run<D: Disk>(
+    alloc: Global,
+    geometry: &Geometry,
+    tasks: &[Task],
+    marks: &mut SessionMarks,
     outcomes: &mut Vec<Outcome>,
     disk: &mut D,
 )
-    requires payloads { All (λ write. IsPayload (length write.bytes)) writes.now }
-    requires marks { marks.old.items ≡ replicate (blocks_of geometry.now.sectors geometry.now.block_sectors) false }
+    requires few { length tasks.now ≤ 4096 }
+    requires payloads { All HasPayload tasks.now }
+    requires marks { marks.old ≡ no_marks geometry.now.sectors geometry.now.block_sectors 1 }
     requires none { outcomes.old.items ≡ [] }
-    requires room { length writes.now ≤ vec_capacity outcomes.old }
+    requires room { length tasks.now ≤ vec_capacity outcomes.old }
     requires disk { D.sectors disk.old ≡ geometry.now.sectors }
     ensures run { (contents : List ℕ) → (journal : List happening)
-        × HaveRun geometry.now contents writes.now outcomes.new.items D.tells
+        × HaveRun geometry.now contents tasks.now outcomes.new.items D.tells marks.new.era
         (D.faults disk.old) (D.faults disk.new) (D.history disk.old).now (D.history disk.new).now journal }
     ensures size { D.sectors disk.new ≡ D.sectors disk.old }
     ensures place { D.place disk.new ≡ D.place disk.old }
 {
-    for write in writes {
-        let outcome = run_write(geometry, write, marks, disk);
+    for task in tasks {
+        let outcome = run_task(alloc, geometry, task, marks, disk);
+        let cut = is_cut(&outcome);
         outcomes.push_reserved(outcome);
-        if is_cut(outcome) {
+        if cut {
             return;
         }
     }

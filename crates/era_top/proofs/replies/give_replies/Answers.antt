@@ -15,7 +15,7 @@ pub returns-in_default-clause-given : goal.returns-in_default-clause-given
 returns-in_default-clause-given g c = λ before is.
     let stand = c.loop-outcome.invariant.0 in
     let front = c.in_default.ensures.given (before ++ stand.0) (stand.2 before is) in
-    let next = outcomes_text-next c.args.outcomes.now c.loop-outcome.outcome-index c.loop-outcome.line c.loop-outcome.place _ c.loop-outcome-test.true in
+    let next = outcomes_text-next c.args.outcomes.now c.loop-outcome.outcome-index c.loop-outcome.line c.loop-outcome.place c.outcome-item.result c.loop-outcome-test.true c.outcome-item.is in
     subst (λ bytes. GivesFront before bytes (g.K.Sink.given c.give_reply.new.sink))
     (sym (stand.1 ∙ ap (λ bytes. stand.0 ++ bytes) next))
     (gives_front-within before stand.0 _ _ _ front)
@@ -24,8 +24,8 @@ returns-in_default-clause-given g c = λ before is.
 pub loop-outcome-preserved : goal.loop-outcome-preserved
 loop-outcome-preserved g c =
     let inv = c.loop-outcome.invariant in (
-      stand_before-next c.args.outcomes.now c.loop-outcome.outcome-index c.loop-outcome.line c.loop-outcome.place _ _ _ _ _
-          c.loop-outcome-test.true inv.0 c.in-Ok.ensures.given c.count_events-place.ensures.value,
+      stand_before-next c.args.outcomes.now c.loop-outcome.outcome-index c.loop-outcome.line c.loop-outcome.place _ c.outcome-item.result _ _ _
+          c.loop-outcome-test.true c.outcome-item.is inv.0 c.in-Ok.ensures.given c.count_events-place.ensures.value,
       c.in-Ok.ensures.cause.kept ∙ inv.1,
       omega (arith, inv.2),
       omega (arith, inv.3, c.count_events-place.ensures.few),

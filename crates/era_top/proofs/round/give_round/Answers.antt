@@ -1,17 +1,16 @@
-use Rattle.std.proofs.Common.{◌≡◌, ◌++◌, refl, sym, ◌∙◌, subst}
+use Rattle.std.proofs.Common.{◌++◌, sym, subst}
 use Rattle.era_model.specs.Transcript.{ReadToEnd, stop_line, end_line}
 use Rattle.era_top.specs.Outcomes.{outcomes_text, total_events}
 use Rattle.era_top.specs.Sessions.{Prints, round_status}
 use Rattle.era_top.proofs.SessionTexts.{end-parts}
 use Rattle.era_top.proofs.SessionSteps.{prints-first, prints-behind}
 use Rattle.era_top.proofs.round.give_round.Goals as goal
-use Rattle.era_top.proofs.round.give_round.Goals.{then-has_cut, else-has_cut}
 
 -- a reply was refused
 pub returns-in_default-clause-printed : goal.returns-in_default-clause-printed
 returns-in_default-clause-printed g c =
     prints-first (g.K.Sink.given c.args.sink.now) (g.K.Sink.given c.give_replies.new.sink) (outcomes_text 1 0 c.args.outcomes.now)
-    (stop_line ReadToEnd ++ end_line 1 (total_events c.args.outcomes.now)) (round_status c.args.outcomes.now) (λ before is. c.in_default.ensures.given before is)
+    (stop_line ReadToEnd ++ end_line c.args.era (total_events c.args.outcomes.now)) (round_status c.args.outcomes.now) (λ before is. c.in_default.ensures.given before is)
 
 -- the last line stands behind the replies
 pub returns-clause-printed : goal.returns-clause-printed
@@ -19,12 +18,7 @@ returns-clause-printed g c =
     let outcomes = c.args.outcomes.now in
     let given' = g.K.Sink.given c.give_replies.new.sink in
     let given'' = g.K.Sink.given c.give_last.new.sink in
-    let status : c.if-has_cut.ended ≡ round_status outcomes = elim c.if-has_cut.branch [
-      | then-has_cut w ↦ w.ended-is ∙ rw (sym c.has_cut.ensures ∙ w.if-has_cut.true) refl
-      | else-has_cut w ↦ w.ended-is ∙ rw (sym c.has_cut.ensures ∙ w.if-has_cut.false) refl
-    ] in
-    let last = rw c.count_all_events.ensures at c.give_last.ensures.printed in
-    prints-behind (g.K.Sink.given c.args.sink.now) given' given'' (outcomes_text 1 0 outcomes) (stop_line ReadToEnd ++ end_line 1 (total_events outcomes)) (round_status outcomes) c.give_last.result
+    let last = rw (c.count_all_events.ensures, c.status_of_round.ensures, c.from.ensures) at c.give_last.ensures.printed in
+    prints-behind (g.K.Sink.given c.args.sink.now) given' given'' (outcomes_text 1 0 outcomes) (stop_line ReadToEnd ++ end_line c.args.era (total_events outcomes)) (round_status outcomes) c.give_last.result
     (λ before is. c.in-Ok.ensures.given before is)
-    (subst (λ ended. Prints given' given'' (stop_line ReadToEnd ++ end_line 1 (total_events outcomes)) ended c.give_last.result) status
-    (subst (λ text. Prints given' given'' text c.if-has_cut.ended c.give_last.result) (sym (end-parts (total_events outcomes))) last))
+    (subst (λ text. Prints given' given'' text (round_status outcomes) c.give_last.result) (sym (end-parts c.args.era (total_events outcomes))) last)

@@ -1,4 +1,4 @@
-use Rattle.std.proofs.Common.{[], length, refl, ap, sym, subst, arith}
+use Rattle.std.proofs.Common.{[], length, refl, ap, sym, subst, inl, arith}
 use Rattle.era_plan.specs.declared.round.PlanError.TheVariants.{Memory as MemoryError}
 use Rattle.era_plan.specs.Grammar.{lines_of}
 use Rattle.era_plan.specs.Rounds.{SpellRound}
@@ -9,7 +9,7 @@ use Rattle.era_top.proofs.round.serve_round.Goals as goal
 pub returns-in_default-clause-goes : goal.returns-in_default-clause-goes
 returns-in_default-clause-goes g c = λ contents left left' faults faults' spelled.
     goes-stop c.args.geometry.now contents _ (g.K.Sink.given c.args.sink.now) (g.K.Sink.given c.give_stop.new.sink) MemoryError c.give_stop.result (λ _. refl)
-    (λ session is idle. (idle, is)) c.give_stop.ensures.printed
+    (λ session is idle. inl (idle, is)) c.give_stop.ensures.printed
 
 -- no more outcomes than writes
 pub give_round-requires : goal.give_round-requires
@@ -21,9 +21,9 @@ give_round-requires g c =
 pub returns-clause-goes : goal.returns-clause-goes
 returns-clause-goes g c = λ contents left left' faults faults' spelled.
     let run = c.run.ensures.run contents in
-    goes-round c.args.geometry.now contents _ (g.K.Sink.given c.args.sink.now) (g.K.Sink.given c.give_round.new.sink) c.as_slice.result.now c.run.new.outcomes.items run.0 c.give_round.result
-    run.1
-    (λ text is. subst (λ writes. SpellRound (lines_of text) writes) (sym c.as_slice.ensures) (spelled text is))
+    goes-round c.args.geometry.now contents _ (g.K.Sink.given c.args.sink.now) (g.K.Sink.given c.give_round.new.sink) c.as_slice.result.now c.run.new.outcomes.items c.era.result run.0 c.give_round.result
+    (rw c.era.ensures run.1)
+    (λ text is. subst (λ tasks. SpellRound (lines_of text) tasks) (sym c.as_slice.ensures) (spelled text is))
     (rw c.as_slice-2.ensures.value at c.give_round.ensures.printed)
 
 -- one of them was cut

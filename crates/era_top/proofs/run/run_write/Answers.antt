@@ -1,6 +1,9 @@
-use Rattle.std.proofs.Common.{refl, sym, ◌∙◌, arith}
-use Rattle.era_top.proofs.Marked.{flag_read}
+use Rattle.std.proofs.Common.{◌≡◌, Bool, true, false, not, refl, sym, ◌∙◌}
 use Rattle.era_top.proofs.run.run_write.Goals as goal
+
+not_not : (b : Bool) → not (not b) ≡ b
+not_not true = refl
+not_not false = refl
 
 -- the write is on the disk
 pub returns-in-Ok-clause-went : goal.returns-in-Ok-clause-went
@@ -14,8 +17,10 @@ returns-in-Ok-clause-went g c = (
       in_block = rw (← c.as_slice-bytes.ensures) c.in-Some.ensures.within.0;
       in_origin = rw (← c.as_slice-bytes.ensures) c.in-Some.ensures.within.1;
     };
-    was = flag_read c.args.marks.now.items c.in-Some.block c.index.result.now (omega (arith, c.requires.marks, c.in-Some.ensures.block, c.args.marks.now.ok.0)) c.index.ensures;
-    now = refl;
+    was = sym c.is_marked-first.ensures.value ∙ sym (not_not c.is_marked-first.result);
+    now = c.mark.ensures.value;
+    lasts = c.mark.ensures.lasts;
+    bounded = c.is_marked-first.ensures.lasts;
   },
   c.in-Ok.ensures.kept,
   (λ tells. record { seen = rw (← c.as_slice-bytes.ensures) (c.in-Ok.ensures.told tells).0; clean = (c.in-Ok.ensures.told tells).1 }),
@@ -33,8 +38,10 @@ returns-in-Err-clause-went g c = (
       in_block = rw (← c.as_slice-bytes.ensures) c.in-Some.ensures.within.0;
       in_origin = rw (← c.as_slice-bytes.ensures) c.in-Some.ensures.within.1;
     };
-    was = flag_read c.args.marks.now.items c.in-Some.block c.index.result.now (omega (arith, c.requires.marks, c.in-Some.ensures.block, c.args.marks.now.ok.0)) c.index.ensures;
-    now = refl;
+    was = sym c.is_marked-first.ensures.value ∙ sym (not_not c.is_marked-first.result);
+    now = c.mark.ensures.value;
+    lasts = c.mark.ensures.lasts;
+    bounded = c.is_marked-first.ensures.lasts;
   },
   record { told_now = c.in-Err.ensures.fault.0; rose = rw (← c.in-Err.ensures.fault.0) c.in-Err.ensures.fault.1 },
   (λ tells. rw (← c.as_slice-bytes.ensures) (c.in-Err.ensures.told tells)),

@@ -21,5 +21,5 @@ returns-in-Err-clause-goes g c = λ contents.
     goes-behind c.args.geometry.now contents _ (g.K.Sink.given c.args.sink.now) (g.K.Sink.given c.give_open.new.sink) (g.K.Sink.given c.give_stop.new.sink) c.give_stop.result
     (λ before is. c.in-Ok.ensures.given before is)
     (goes-stop c.args.geometry.now contents _ (g.K.Sink.given c.give_open.new.sink) (g.K.Sink.given c.give_stop.new.sink) c.in-Err.error c.give_stop.result (λ _. refl)
-    (error-cause _ c.in-Err.error c.in-Err.ensures.cause (λ text is. c.in-Err.ensures.refused text is) (λ text is. c.in-Err.ensures.front text is))
+    (error-cause c.args.geometry.now _ c.in-Err.error c.in-Err.ensures.cause (λ text is. c.in-Err.ensures.refused text is) (λ text is. c.in-Err.ensures.front text is))
     c.give_stop.ensures.printed)
