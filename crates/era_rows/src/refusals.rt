@@ -93,11 +93,18 @@ fn is_refused<R: std::thread::Threads + std::sync::Wait + Sync>(
 #[test]
 fn a_refused_line_leaves_the_origin_as_it_was(rt: HostRuntime) -> Result<(), Fail> {
     let alloc = rt.alloc();
-    let rows: [&[u8]; 14] = [
+    let rows: [&[u8]; 21] = [
         b"run\n",
         b"\n",
-        b"0 checkpoint\n",
-        b"0 list 1\n",
+        b"0 checkpoint 1\n",
+        b"0 checkpoint \n",
+        b"1 checkpoint\n",
+        b"0 list\n",
+        b"0 list \n",
+        b"0 list 01\n",
+        b"0 list 4294967296\n",
+        b"0 list 1 2\n",
+        b"0 list_snap 1\n",
         b"0 write\n",
         b"0 write 0\n",
         b"0 write 0 \n",
