@@ -1,2 +1,3 @@
 pub mod NumberBytes
 pub mod PageFields
+pub mod WrittenBytes

@@ -6,12 +6,17 @@ mod archived;
 mod array_page;
 mod bits_page;
 mod damage;
+mod encoder;
 mod numbers;
+mod offsets;
 mod page_list;
+mod root;
 
 pub use archive_list::ArchiveList;
 pub use archived::Archived;
 pub use array_page::{check_array_page, encode_array_page, era_at};
 pub use bits_page::{bit_at, check_bits_page, encode_bits_page};
 pub use damage::{DamageKind, PageError, RootError};
+pub use encoder::encode_root;
 pub use page_list::PageList;
+pub use root::Root;
