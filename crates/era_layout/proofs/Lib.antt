@@ -1,3 +1,4 @@
 pub mod NumberBytes
 pub mod PageFields
 pub mod WrittenBytes
+pub mod ListFields

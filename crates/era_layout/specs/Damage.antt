@@ -58,7 +58,7 @@ pub record IsArchiveInOrder (bytes : List ℕ) (archive : List Archived) : Type 
   pub order : EraOrder 0 (u32_at bytes 24) archive
 
 -- What bytes have exactly where the kind of damage doesn't apply to them; want of memory is no damage.
-abbrev pub Passes : List ℕ → RootError → Type 0
+unfoldable pub Passes : List ℕ → RootError → Type 0
 Passes bytes BadMagic = part 0 8 bytes ≡ magic
 Passes bytes BadVersion = u32_at bytes 8 ≡ 1
 Passes bytes BadGeometry = IsGeometry (u64_at bytes 16) (u32_at bytes 12)

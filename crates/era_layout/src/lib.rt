@@ -5,11 +5,14 @@ mod archive_list;
 mod archived;
 mod array_page;
 mod bits_page;
+mod checker;
 mod damage;
 mod encoder;
+mod lists_checker;
 mod numbers;
 mod offsets;
 mod page_list;
+mod page_numbers;
 mod root;
 
 pub use archive_list::ArchiveList;
