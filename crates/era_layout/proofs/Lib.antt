@@ -2,3 +2,8 @@ pub mod NumberBytes
 pub mod PageFields
 pub mod WrittenBytes
 pub mod ListFields
+pub mod ListBytes
+pub mod RootParts
+pub mod RootRead
+pub mod RootWritten
+pub mod PageBytes

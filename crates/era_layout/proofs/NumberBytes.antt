@@ -1,18 +1,13 @@
 -- A number that was written at an offset is read there, and a number that was read stands there.
-use Rattle.std.proofs.Common.{◌≡◌, ℕ, zero, suc, ◌+◌, ◌*◌, ◌^◌, ◌<◌, ◌≤◌, List, [], ◌∷◌, ◌++◌, length, get_or, take, drop, refl, sym, ap, ◌∙◌, append_assoc, arith, add-suc, length-drop, length-append}
+use Rattle.std.proofs.Common.{◌≡◌, ℕ, ◌+◌, ◌*◌, ◌^◌, ◌<◌, ◌≤◌, List, [], ◌∷◌, ◌++◌, length, drop, refl, sym, ap, ◌∙◌, arith, length-drop, length-append}
 use Rattle.std.specs.Int.{w32, w64, to_le_bytes, from_le_bytes}
-use Rattle.std.proofs.lemmas.List.{take-append-drop, length-take, length-take-le, get_or-take, get_or-drop, get_or_past, take_at, drop-drop}
+use Rattle.std.proofs.lemmas.List.{take-append-drop, length-take, length-take-le, get_or-take, get_or-drop, get_or_past, drop-drop}
 use Rattle.std.proofs.lemmas.Bool.{cases_lt}
 use Rattle.std.proofs.lemmas.Nat.{le_bytes_4, le_bytes_8, from_le_bytes-to_le_bytes_4, from_le_bytes-to_le_bytes_8}
 use Rattle.std.proofs.Math.Seq.{drop-append-add}
-use Rattle.std.specs.List.{AllByRecursion}
 use Rattle.era_base.specs.Bytes.{part}
-use Rattle.era_layout.specs.Numbers.{u32_bytes, u64_bytes, u32s_bytes, u64s_bytes, u32_at, u64_at, u32s_at}
+use Rattle.era_layout.specs.Numbers.{AreBytes, u32_bytes, u64_bytes, u32s_bytes, u64s_bytes, u32_at, u64_at}
 use Rattle.std.proofs.Common.{inl, inr}
-
--- each element is a byte
-abbrev pub IsBytes : List ℕ → Type 0
-IsBytes bytes = (i : ℕ) → get_or bytes i 0 < 256
 
 pub length-u32_bytes : (n : ℕ) → length (u32_bytes n) ≡ 4
 unfolding u32_bytes
@@ -48,8 +43,8 @@ pub u64_at-front : (n : ℕ) (rest : List ℕ) → n < 2 ^ 64 → u64_at (u64_by
 unfolding u64_at u64_bytes
 u64_at-front n rest lt = from_le_bytes-to_le_bytes_8 n lt
 
-IsBytes-part : (offset count : ℕ) (bytes : List ℕ) → IsBytes bytes → IsBytes (part offset count bytes)
-IsBytes-part offset count bytes fits i =
+AreBytes-part : (offset count : ℕ) (bytes : List ℕ) → AreBytes bytes → AreBytes (part offset count bytes)
+AreBytes-part offset count bytes fits i =
     elim (cases_lt i count) [
       | inl lt ↦ rw (get_or-take count (drop offset bytes) i 0 lt, get_or-drop) (fits (offset + i))
       | inr le ↦ rw (get_or_past (part offset count bytes) i 0 (omega (arith, length-take count (drop offset bytes)))) (omega arith)
@@ -62,25 +57,25 @@ part_split : (offset count : ℕ) (bytes : List ℕ) → drop offset bytes ≡ p
 part_split offset count bytes = sym (take-append-drop count (drop offset bytes)) ∙ ap (λ (rest : List ℕ). part offset count bytes ++ rest) (drop-drop count offset bytes)
 
 -- a number that is read at an offset stands there
-pub u32_split : (bytes : List ℕ) (offset next : ℕ) → IsBytes bytes → offset + 4 ≡ next → next ≤ length bytes → drop offset bytes ≡ u32_bytes (u32_at bytes offset) ++ drop next bytes
+pub u32_split : (bytes : List ℕ) (offset next : ℕ) → AreBytes bytes → offset + 4 ≡ next → next ≤ length bytes → drop offset bytes ≡ u32_bytes (u32_at bytes offset) ++ drop next bytes
 unfolding u32_at u32_bytes
 u32_split bytes offset next fits is le =
-    let stands : to_le_bytes w32 (from_le_bytes w32 (part offset 4 bytes)) ≡ part offset 4 bytes = le_bytes_4 (part offset 4 bytes) _ (length-part offset 4 bytes (omega arith)) (IsBytes-part offset 4 bytes fits) refl in
+    let stands : to_le_bytes w32 (from_le_bytes w32 (part offset 4 bytes)) ≡ part offset 4 bytes = le_bytes_4 (part offset 4 bytes) _ (length-part offset 4 bytes (omega arith)) (AreBytes-part offset 4 bytes fits) refl in
     part_split offset 4 bytes ∙ ap (λ (front : List ℕ). front ++ drop (offset + 4) bytes) (sym stands) ∙ ap (λ (k : ℕ). to_le_bytes w32 (from_le_bytes w32 (part offset 4 bytes)) ++ drop k bytes) is
 
-pub u64_split : (bytes : List ℕ) (offset next : ℕ) → IsBytes bytes → offset + 8 ≡ next → next ≤ length bytes → drop offset bytes ≡ u64_bytes (u64_at bytes offset) ++ drop next bytes
+pub u64_split : (bytes : List ℕ) (offset next : ℕ) → AreBytes bytes → offset + 8 ≡ next → next ≤ length bytes → drop offset bytes ≡ u64_bytes (u64_at bytes offset) ++ drop next bytes
 unfolding u64_at u64_bytes
 u64_split bytes offset next fits is le =
-    let stands : to_le_bytes w64 (from_le_bytes w64 (part offset 8 bytes)) ≡ part offset 8 bytes = le_bytes_8 (part offset 8 bytes) _ (length-part offset 8 bytes (omega arith)) (IsBytes-part offset 8 bytes fits) refl in
+    let stands : to_le_bytes w64 (from_le_bytes w64 (part offset 8 bytes)) ≡ part offset 8 bytes = le_bytes_8 (part offset 8 bytes) _ (length-part offset 8 bytes (omega arith)) (AreBytes-part offset 8 bytes fits) refl in
     part_split offset 8 bytes ∙ ap (λ (front : List ℕ). front ++ drop (offset + 8) bytes) (sym stands) ∙ ap (λ (k : ℕ). to_le_bytes w64 (from_le_bytes w64 (part offset 8 bytes)) ++ drop k bytes) is
 
 -- a number that is read is below 2^32
-pub u32_at_below : (bytes : List ℕ) (offset : ℕ) → IsBytes bytes → u32_at bytes offset < 2 ^ 32
+pub u32_at_below : (bytes : List ℕ) (offset : ℕ) → AreBytes bytes → u32_at bytes offset < 2 ^ 32
 unfolding u32_at
 u32_at_below bytes offset fits =
-    let f = IsBytes-part offset 4 bytes fits in omega (arith, f 0, f 1, f 2, f 3)
+    let f = AreBytes-part offset 4 bytes fits in omega (arith, f 0, f 1, f 2, f 3)
 
-pub u64_at_below : (bytes : List ℕ) (offset : ℕ) → IsBytes bytes → u64_at bytes offset < 2 ^ 64
+pub u64_at_below : (bytes : List ℕ) (offset : ℕ) → AreBytes bytes → u64_at bytes offset < 2 ^ 64
 unfolding u64_at
 u64_at_below bytes offset fits =
-    let f = IsBytes-part offset 8 bytes fits in omega (arith, f 0, f 1, f 2, f 3, f 4, f 5, f 6, f 7)
+    let f = AreBytes-part offset 8 bytes fits in omega (arith, f 0, f 1, f 2, f 3, f 4, f 5, f 6, f 7)

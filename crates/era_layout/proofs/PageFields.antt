@@ -1,13 +1,13 @@
 -- The entries and bits of a page are those that were written.
-use Rattle.std.proofs.Common.{◌≡◌, ℕ, zero, suc, ◌+◌, ◌-◌, ◌*◌, ◌/◌, ◌%◌, ◌^◌, ◌<◌, ◌≤◌, eqb, List, [], ◌∷◌, ◌++◌, length, false, min, get_or, take, drop, replicate, refl, sym, ap, ◌∙◌, append_assoc, arith, inl, inr}
-use Rattle.std.specs.Int.{w32, from_le_bytes, bit_at}
+use Rattle.std.proofs.Common.{◌≡◌, ℕ, zero, suc, ◌+◌, ◌-◌, ◌*◌, ◌/◌, ◌%◌, ◌^◌, ◌<◌, ◌≤◌, eqb, List, [], ◌∷◌, ◌++◌, length, false, min, get_or, drop, replicate, refl, sym, ap, ◌∙◌, append_assoc, arith, inl, inr}
+use Rattle.std.specs.Int.{bit_at}
 use Rattle.std.proofs.lemmas.Nat.Bits.{bit_at_and, bit_at_ones, bit_at-lt, bit_at-zero}
 use Rattle.std.proofs.lemmas.Bool.{cases_lt}
 use Rattle.std.proofs.lemmas.List.{get_or-take, get_or-drop, length-take, get_or-replicate, get_or_past, length-replicate, get_or-append-add, get_or_append_left}
 use Rattle.std.proofs.lemmas.Nat.{and_mask, shr-shr}
 use Rattle.era_base.specs.Bytes.{part}
 use Rattle.era_layout.specs.Numbers.{u32_bytes, u64_bytes, u32s_bytes, u64s_bytes, u32_at}
-use Rattle.era_layout.specs.Pages.{bit_of, flag_at, bit_of_words, entry_at}
+use Rattle.era_layout.specs.Pages.{bit_of, flag_at, bit_of_words}
 use Rattle.era_layout.proofs.NumberBytes.{length-u32_bytes, length-u64_bytes, u32_at-append, u32_at-front}
 
 zeros_at : (count index : ℕ) → get_or {A = ℕ} (replicate count 0) index 0 ≡ 0

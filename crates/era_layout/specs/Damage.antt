@@ -1,5 +1,5 @@
 -- What a root's bytes say field by field, and the kinds of damage in their order. The offsets stand in docs/FORMAT.md, "A root".
-use Rattle.std.specs.Prelude.{ℕ, zero, suc, ◌≡◌, ◌+◌, ◌*◌, ◌<◌, ◌≤◌, ◌==◌, ◌⊎◌, List, [], ◌∷◌, ◌++◌, drop, EachIndex, slice_index}
+use Rattle.std.specs.Prelude.{ℕ, zero, suc, ◌≡◌, ◌+◌, ◌*◌, ◌<◌, ◌≤◌, ◌==◌, ◌⊎◌, List, [], ◌∷◌, drop, EachIndex, slice_index}
 use Rattle.era_base.specs.Bytes.{part}
 use Rattle.era_base.specs.Geometry.{blocks_of, array_pages_of, bit_pages_of}
 use Rattle.era_layout.specs.declared.archived.Archived.{Archived}

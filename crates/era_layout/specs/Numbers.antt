@@ -1,8 +1,12 @@
 -- Numbers in bytes, the lowest byte first.
-use Rattle.std.specs.Prelude.{ℕ, zero, suc, ◌+◌, ◌-◌, List, [], ◌∷◌, ◌++◌, length, replicate}
+use Rattle.std.specs.Prelude.{ℕ, zero, suc, ◌+◌, ◌-◌, ◌<◌, slice_index, List, [], ◌∷◌, ◌++◌, length, replicate}
 use Rattle.std.specs.List.{flat_map}
 use Rattle.std.specs.Int.{w32, w64, to_le_bytes, from_le_bytes}
 use Rattle.era_base.specs.Bytes.{part}
+
+-- Each element is a byte.
+abbrev pub AreBytes : List ℕ → Type 0
+AreBytes bytes = (index : ℕ) → slice_index bytes index < 256
 
 -- A number in four bytes, the lowest byte first.
 unfoldable pub u32_bytes : ℕ → List ℕ

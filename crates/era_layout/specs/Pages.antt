@@ -1,5 +1,5 @@
 -- Pages of 4,096 bytes: entries of the era array, and bits of a write set. The offsets stand in docs/FORMAT.md, "A page".
-use Rattle.std.specs.Prelude.{◌≡◌, ℕ, Bool, true, false, ◌+◌, ◌*◌, ◌/◌, ◌%◌, ◌^◌, ◌<◌, ◌≤◌, ◌==◌, List, slice_index}
+use Rattle.std.specs.Prelude.{◌≡◌, ℕ, Bool, true, false, ◌*◌, ◌/◌, ◌%◌, ◌^◌, ◌<◌, ◌≤◌, ◌==◌, List, slice_index}
 use Rattle.era_layout.specs.Numbers.{u32_at, u32s_bytes, u64s_bytes, padded}
 
 -- The page of the era array with these entries, and zeros behind them.
@@ -21,7 +21,7 @@ EntriesUpTo page first limit = (index : ℕ) → first ≤ index → index < 102
 -- A page of the era array for so many entries: those behind them are 0, and none is greater than the limit.
 pub record IsArrayPage (page : List ℕ) (entries limit : ℕ) : Type 0 where
   pub end : EntriesUpTo page entries 0
-  pub past : EntriesUpTo page 0 limit
+  pub limited : EntriesUpTo page 0 limit
 
 -- A bit of a number, counted from the lowest.
 unfoldable pub bit_of : ℕ → ℕ → Bool

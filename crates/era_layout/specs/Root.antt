@@ -1,5 +1,5 @@
 -- A root: what it says, its bytes, and which roots there are. The offsets stand in docs/FORMAT.md, "A root".
-use Rattle.std.specs.Prelude.{ℕ, ◌≡◌, ◌≢◌, ◌+◌, ◌*◌, ◌^◌, ◌<◌, ◌≤◌, Bool, List, [], ◌∷◌, ◌++◌, length, codes, EachIndex, slice_index, if◌then◌else◌}
+use Rattle.std.specs.Prelude.{ℕ, ◌≡◌, ◌≢◌, ◌^◌, ◌<◌, ◌≤◌, Bool, List, [], ◌∷◌, ◌++◌, length, codes, EachIndex, slice_index, if◌then◌else◌}
 use Rattle.std.specs.List.{flat_map, AllByRecursion}
 use Rattle.era_base.specs.Geometry.{IsBlockSize, blocks_of, array_pages_of, bit_pages_of, need_of}
 use Rattle.era_layout.specs.declared.archived.Archived.{Archived}

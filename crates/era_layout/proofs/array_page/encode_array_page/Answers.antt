@@ -1,4 +1,4 @@
-use Rattle.std.proofs.Common.{◌*◌, ◌^◌, arith}
+use Rattle.std.proofs.Common.{arith}
 use Rattle.era_layout.proofs.PageFields.{entry_written}
 use Rattle.era_layout.proofs.array_page.encode_array_page.Goals as goal
 

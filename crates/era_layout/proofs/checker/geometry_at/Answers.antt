@@ -6,7 +6,6 @@ use Rattle.era_base.specs.declared.geometry.GeomError.{GeomError}
 use Rattle.era_base.specs.declared.geometry.GeomError.TheVariants.{BadBlockSize, NoBlocks, TooManyBlocks}
 use Rattle.era_layout.specs.Root.{IsGeometry}
 use Rattle.era_layout.specs.Damage.{Passes}
-use Rattle.era_layout.specs.Numbers.{u32_at, u64_at}
 use Rattle.era_layout.proofs.checker.geometry_at.Goals as goal
 
 -- numbers that were refused are no geometry

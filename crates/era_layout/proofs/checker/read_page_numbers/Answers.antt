@@ -1,5 +1,4 @@
-use Rattle.std.proofs.Common.{◌≡◌, ◌+◌, ◌-◌, ◌*◌, ℕ, suc, length, length-append, append_assoc, refl, arith}
-use Rattle.era_layout.specs.Numbers.{u32s_at}
+use Rattle.std.proofs.Common.{◌≡◌, ◌+◌, ◌-◌, suc, length-append, append_assoc, refl, arith}
 use Rattle.era_layout.proofs.ListFields.{length-u32s_at, sets_at_first}
 use Rattle.era_layout.proofs.checker.read_page_numbers.Goals as goal
 

@@ -1,4 +1,4 @@
-use Rattle.std.proofs.Common.{◌≡◌, ◌∙◌, ℕ, List, ◌++◌, length, take, ap, arith}
+use Rattle.std.proofs.Common.{◌≡◌, ◌∙◌, ℕ, ◌++◌, length, take, ap, arith}
 use Rattle.era_layout.specs.Numbers.{u32s_bytes, padded}
 use Rattle.era_layout.specs.Root.{fields_of, head_bytes, lists_bytes, archive_bytes}
 use Rattle.era_layout.proofs.WrittenBytes.{padded_written, joined}

@@ -1,6 +1,6 @@
-use Rattle.std.proofs.Common.{◌≡◌, ◌+◌, ◌-◌, ℕ, suc, false, arith}
+use Rattle.std.proofs.Common.{◌≡◌, ◌+◌, ◌-◌, suc, false, arith}
 use Rattle.std.specs.Prelude.{IsTrue}
-use Rattle.era_layout.proofs.ListFields.{FirstInOrder, order_first, order_whole}
+use Rattle.era_layout.proofs.ListFields.{order_first, order_whole}
 use Rattle.era_layout.proofs.lists_checker.are_in_order.Goals as goal
 use Rattle.era_layout.proofs.lists_checker.are_in_order.Goals.{then-next-last-via-then-next-last, then-next-last-via-else-next-last+then-next-era}
 

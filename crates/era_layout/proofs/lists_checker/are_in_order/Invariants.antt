@@ -1,4 +1,4 @@
-use Rattle.std.proofs.Common.{◌≡◌, ◌+◌, ◌-◌, ◌*◌, ◌≤◌, ◌↔◌}
+use Rattle.std.proofs.Common.{◌+◌, ◌-◌, ◌*◌, ◌≤◌, ◌↔◌}
 use Rattle.era_layout.specs.Root.{EraOrder}
 use Rattle.era_layout.specs.Damage.{sets_at}
 use Rattle.era_layout.proofs.lists_checker.are_in_order.Given as goal
