@@ -16,7 +16,8 @@ pub fn encode_array_page(eras: &[u32], into: &mut [u8])
     requires page { length into.old ≡ 4096 }
     requires eras { length eras.now ≤ 1024 }
     ensures page { into.new ≡ array_page eras.now }
-    ensures entries { (index : ℕ) → index < 1024 → entry_at into.new index ≡ slice_index eras.now index }
+    ensures entries { (index : ℕ) → index < 1024
+        → entry_at into.new index ≡ slice_index eras.now index }
 {
     let behind = write_u32s(into, 0, eras);
     write_zeros(into, behind);

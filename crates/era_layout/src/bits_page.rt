@@ -16,7 +16,8 @@ pub fn encode_bits_page(words: &[u64], into: &mut [u8])
     requires page { length into.old ≡ 4096 }
     requires words { length words.now ≤ 512 }
     ensures page { into.new ≡ bits_page words.now }
-    ensures bits { (index : ℕ) → index < 32768 → flag_at into.new index ≡ bit_of_words words.now index }
+    ensures bits { (index : ℕ) → index < 32768
+        → flag_at into.new index ≡ bit_of_words words.now index }
 {
     let behind = write_u64s(into, 0, words);
     write_zeros(into, behind);

@@ -1,6 +1,6 @@
 //! Whether bytes are a root, and the first reason why not. No test takes memory, so want of memory hides no damage.
 
-ghost use Rattle.std.specs.Prelude.{◌≡◌, ◌+◌, ◌*◌, ◌≤◌, ◌↔◌, ◌++◌, length, IsTrue, OnOk, IfOk, IfErr, IsErr};
+ghost use Rattle.std.specs.Prelude.{◌≡◌, ◌+◌, ◌*◌, ◌≤◌, ◌↔◌, ◌++◌, length, IsTrue, OnOk, IfOk, IfErr, OnSome, IfSome, IfNone};
 ghost use Rattle.era_layout.specs.Numbers.{u32_at, u64_at, u32s_at};
 ghost use Rattle.era_layout.specs.Root.{IsGeometry, archive_pages, pages_of};
 ghost use Rattle.era_layout.specs.Damage.{sets_at, archive_offset, fields_at, Passes, root_kinds, IsFirst, NoneApplies};
@@ -37,22 +37,19 @@ fn has_version(bytes: &[u8]) -> bool
     read_u32(bytes, VERSION) == LAYOUT
 }
 
-/// The geometry that the length and the block size make.
+/// The geometry that the length and the block size make, if they make one.
 #[tactic(auto, unfolding(crate::specs::Damage::Passes))]
-fn geometry_at(bytes: &[u8]) -> Result<Geometry, RootError>
+fn geometry_at(bytes: &[u8]) -> Option<Geometry>
     requires { length bytes.now ≡ 3576 }
-    ensures ok { OnOk result (Passes bytes.now RootError.BadGeometry) }
-    ensures same { IfOk result (λ geometry.
+    ensures some { OnSome result (Passes bytes.now RootError.BadGeometry) }
+    ensures same { IfSome result (λ geometry.
         (geometry.sectors ≡ u64_at bytes.now 16) × (geometry.block_sectors ≡ u32_at bytes.now 12)) }
-    ensures err { IsErr result → ¬ Passes bytes.now RootError.BadGeometry }
-    ensures kind { IfErr result (λ kind. kind ≡ RootError.BadGeometry) }
+    ensures none { IfNone result (¬ Passes bytes.now RootError.BadGeometry) }
 {
-    match Geometry::new(
-        read_u64(bytes, SECTORS),
-        u64::from(read_u32(bytes, BLOCK_SECTORS)),
-    ) {
-        Ok(geometry) => Ok(geometry),
-        Err(_) => Err(RootError::BadGeometry),
+    let block_sectors = u64::from(read_u32(bytes, BLOCK_SECTORS));
+    match Geometry::new(read_u64(bytes, SECTORS), block_sectors) {
+        Ok(geometry) => Some(geometry),
+        Err(_) => None,
     }
 }
 
@@ -178,8 +175,8 @@ fn has_zero_tail(bytes: &[u8], geometry: &Geometry) -> bool
     read_u32(bytes, GAP) == 0 && are_zeros(&bytes[end..])
 }
 
-/// Tests 3,576 bytes, and gives the geometry of the root that they are. Otherwise it gives the first kind of damage that
-/// applies. It takes no memory.
+/// Tests 3,576 bytes, and gives the geometry of the root that they are. Otherwise it gives the first kind of damage
+/// that applies. It takes no memory.
 pub fn check_root(bytes: &[u8]) -> Result<Geometry, RootError>
     requires { length bytes.now ≡ 3576 }
     ensures none { OnOk result (NoneApplies bytes.now root_kinds) }
@@ -194,9 +191,8 @@ pub fn check_root(bytes: &[u8]) -> Result<Geometry, RootError>
     if !has_version(bytes) {
         return Err(RootError::BadVersion);
     }
-    let geometry = match geometry_at(bytes) {
-        Ok(geometry) => geometry,
-        Err(kind) => return Err(kind),
+    let Some(geometry) = geometry_at(bytes) else {
+        return Err(RootError::BadGeometry);
     };
     if !has_era(bytes) {
         return Err(RootError::BadEra);

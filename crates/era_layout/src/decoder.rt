@@ -83,7 +83,8 @@ fn read_root(alloc: Global, bytes: &[u8], geometry: Geometry) -> Result<Root, Me
 pub fn decode_root(alloc: Global, bytes: &[u8]) -> Result<Root, RootError>
     requires { length bytes.now ≡ 3576 }
     // What is decoded is valid, and encoded to the same bytes.
-    ensures ok { IfOk result (λ root. IsValidRoot (fields_of root) × (root_bytes (fields_of root) ≡ bytes.now)) }
+    ensures ok { IfOk result (λ root.
+        IsValidRoot (fields_of root) × (root_bytes (fields_of root) ≡ bytes.now)) }
     // What is encoded is decoded to itself.
     ensures again { (root : RootFields) → IsValidRoot root → root_bytes root ≡ bytes.now
         → MatchResult result (λ found. fields_of found ≡ root) (λ error. error ≡ RootError.Memory) }

@@ -18,8 +18,8 @@ refused NoBlocks sectors block_sectors size none many geometry =
 refused (TooManyBlocks count) sectors block_sectors size none many geometry =
     let too_many = many count refl in omega (arith, too_many.1, too_many.2, geometry.limited)
 
-pub returns-in-Err-clause-err : goal.returns-in-Err-clause-err
+pub returns-in-Err-clause-none : goal.returns-in-Err-clause-none
 unfolding Passes
-returns-in-Err-clause-err c = λ is geometry.
-    refused c.in-Err.field-0 c.read_u64.result c.from.result c.in-Err.ensures.block_size.0 c.in-Err.ensures.none.0 (λ count. (c.in-Err.ensures.many count).0)
-    (rw (c.from.ensures, c.read_u32.ensures, c.read_u64.ensures) geometry)
+returns-in-Err-clause-none c = λ geometry.
+    refused c.in-Err.field-0 c.read_u64.result c.from-block_sectors.result c.in-Err.ensures.block_size.0 c.in-Err.ensures.none.0 (λ count. (c.in-Err.ensures.many count).0)
+    (rw (c.from-block_sectors.ensures, c.read_u32.ensures, c.read_u64.ensures) geometry)
