@@ -70,13 +70,10 @@ Passes bytes PageTwice = AreDifferent (pages_of (fields_at bytes))
 Passes bytes TailNotZero = IsTailZero bytes (array_pages_of (blocks_at bytes)) (bit_pages_of (blocks_at bytes))
 Passes bytes Memory = Unit {0}
 
--- The kinds of damage of the lists of a root, in their order.
-abbrev pub list_kinds : List RootError
-list_kinds = ArchiveOrder ∷ PageRange ∷ PageTwice ∷ TailNotZero ∷ []
-
 -- The kinds of damage of a root, in their order.
 abbrev pub root_kinds : List RootError
-root_kinds = BadMagic ∷ BadVersion ∷ BadGeometry ∷ BadEra ∷ BadHeld ∷ list_kinds
+root_kinds =
+    BadMagic ∷ BadVersion ∷ BadGeometry ∷ BadEra ∷ BadHeld ∷ ArchiveOrder ∷ PageRange ∷ PageTwice ∷ TailNotZero ∷ []
 
 -- The kind is the first one of a list of kinds that applies.
 abbrev pub IsFirst : List ℕ → List RootError → RootError → Type 0

@@ -2,22 +2,19 @@
 
 ghost use Rattle.std.specs.Prelude.{◌≡◌, ◌+◌, ◌*◌, ◌≤◌, ◌↔◌, ◌++◌, length, IsTrue, OnOk, IfOk, IfErr, OnSome, IfSome, IfNone};
 ghost use Rattle.era_layout.specs.Numbers.{u32_at, u64_at, u32s_at};
-ghost use Rattle.era_layout.specs.Root.{IsGeometry, archive_pages, pages_of};
+ghost use Rattle.era_layout.specs.Root.{archive_pages, pages_of};
 ghost use Rattle.era_layout.specs.Damage.{sets_at, archive_offset, fields_at, Passes, root_kinds, IsFirst, NoneApplies};
 ghost use Rattle.era_base.specs.Geometry.{blocks_of, array_pages_of, bit_pages_of};
 
 use crate::damage::RootError;
 use crate::lists_checker::{are_different, are_in_image, are_in_order, are_zeros};
 use crate::numbers::{read_u32, read_u64};
-use crate::offsets::{BLOCK_SECTORS, COUNT, ERA, GAP, HELD, LISTS, MAGIC, SECTORS, VERSION};
+use crate::offsets::{
+    BLOCK_SECTORS, COUNT, ERA, GAP, HELD, HELD_BLOCK, LAYOUT, LISTS, MAGIC, MOST_SETS, SECTORS,
+    VERSION,
+};
 use crate::page_numbers::PageNumbers;
 use era_base::Geometry;
-
-/// The version of the layout that is read.
-const LAYOUT: u32 = 1;
-
-/// The greatest number of archived sets.
-const MOST_SETS: u32 = 16;
 
 /// Whether bytes begin with the magic.
 #[tactic(auto, unfolding(crate::specs::Root::magic, crate::specs::Damage::Passes))]
@@ -69,7 +66,7 @@ fn has_held(bytes: &[u8]) -> bool
     ensures { IsTrue result ↔ Passes bytes.now RootError.BadHeld }
 {
     let held = read_u32(bytes, HELD);
-    held == 0 || held == 2
+    held == 0 || held == HELD_BLOCK
 }
 
 /// The offset of the archived sets in a root of this geometry.
@@ -93,14 +90,8 @@ fn has_archive_in_order(bytes: &[u8], geometry: &Geometry) -> bool
 {
     let count = read_u32(bytes, COUNT);
     let width = geometry.bit_pages() as usize;
-    count <= MOST_SETS
-        && are_in_order(
-            bytes,
-            width,
-            archive_at(geometry),
-            count,
-            read_u32(bytes, ERA),
-        )
+    let offset = archive_at(geometry);
+    count <= MOST_SETS && are_in_order(bytes, width, offset, count, read_u32(bytes, ERA))
 }
 
 /// The page numbers of a root whose era array takes `array` pages and whose `count` archived sets take `width` pages

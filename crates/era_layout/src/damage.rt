@@ -36,7 +36,7 @@ pub enum PageError {
     BitPastEnd,
 }
 
-/// Each way in which a metadata disk can be damaged, in the order in which they are told.
+/// Each way in which a metadata disk can be damaged, in the order in which each can first be told.
 #[derive(Clone, Copy, Debug, PartialEq, Eq)]
 pub enum DamageKind {
     /// The sequence number of an open slot is 0 or at least 2^63.

@@ -10,7 +10,7 @@ use crate::archived::Archived;
 use crate::checker::check_root;
 use crate::damage::RootError;
 use crate::numbers::read_u32;
-use crate::offsets::{COUNT, ERA, HELD, LISTS};
+use crate::offsets::{COUNT, ERA, HELD, HELD_BLOCK, LISTS};
 use crate::page_list::PageList;
 use crate::root::Root;
 use era_base::{Geometry, Memory};
@@ -65,7 +65,7 @@ fn read_root(alloc: Global, bytes: &[u8], geometry: Geometry) -> Result<Root, Me
     Ok(Root {
         geometry,
         era: read_u32(bytes, ERA),
-        held: read_u32(bytes, HELD) == 2,
+        held: read_u32(bytes, HELD) == HELD_BLOCK,
         array: read_pages(alloc, bytes, LISTS, count)?,
         current: read_pages(alloc, bytes, behind, width)?,
         archive: read_sets(

@@ -5,14 +5,8 @@ ghost use Rattle.era_layout.specs.Root.{fields_of, head_bytes, archived_bytes, a
 
 use crate::archived::Archived;
 use crate::numbers::{write_bytes, write_u32, write_u32s, write_u64, write_zeros};
-use crate::offsets::MAGIC;
+use crate::offsets::{HELD_BLOCK, LAYOUT, MAGIC};
 use crate::root::Root;
-
-/// The version of the layout.
-const LAYOUT: u32 = 1;
-
-/// The held field of a root that holds a snapshot: the metadata block where it stands.
-const HELD_BLOCK: u32 = 2;
 
 /// The held field of a root.
 fn held_field(held: bool) -> u32

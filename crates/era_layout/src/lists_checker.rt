@@ -3,7 +3,7 @@
 ghost use Rattle.std.specs.Prelude.{◌≡◌, ◌+◌, ◌*◌, ◌≤◌, ◌↔◌, ℕ, length, IsTrue};
 ghost use Rattle.era_base.specs.Geometry.{need_of};
 ghost use Rattle.era_layout.specs.Root.{EraOrder, AreInImage, AreDifferent};
-ghost use Rattle.era_layout.specs.Damage.{AreZeros, set_size, sets_at};
+ghost use Rattle.era_layout.specs.Damage.{AreZeros, sets_at};
 
 use crate::numbers::read_u32;
 
@@ -14,7 +14,7 @@ pub fn are_zeros(bytes: &[u8]) -> bool
     bytes.iter().all(|byte| *byte == 0)
 }
 
-/// Whether each number is that of a page of an image of so many blocks.
+/// Whether each number is that of a page of an image that needs so many metadata blocks.
 pub fn are_in_image(pages: &[u32], need: u32) -> bool
     ensures { (blocks : ℕ) → need ≡ need_of blocks → IsTrue result ↔ AreInImage blocks pages.now }
 {
