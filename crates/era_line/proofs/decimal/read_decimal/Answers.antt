@@ -2,7 +2,7 @@ use Rattle.std.proofs.Common.{◌≡◌, Ok, sym, ◌∙◌, ap}
 use Rattle.std.specs.Prelude.{decimal}
 use Rattle.std.proofs.lemmas.Fmt.{parse-decimal}
 use Rattle.std.proofs.lemmas.Slice.Eq.{bytes_eq-Decides}
-use Rattle.era_line.proofs.table_line.number.Goals as goal
+use Rattle.era_line.proofs.decimal.read_decimal.Goals as goal
 
 -- a decimal is read
 pub returns-in_default-clause-none : goal.returns-in_default-clause-none
