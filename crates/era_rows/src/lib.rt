@@ -6,7 +6,11 @@ mod bench;
 #[cfg(test)]
 mod faults;
 #[cfg(test)]
+mod images;
+#[cfg(test)]
 mod lists;
+#[cfg(test)]
+mod needs;
 #[cfg(test)]
 mod refusals;
 #[cfg(test)]

@@ -39,8 +39,7 @@ fn a_list_names_a_short_last_block(rt: HostRuntime) -> Result<(), Fail> {
         stream.as_bytes(),
         bay(alloc, 512, &[])?,
     )?;
-    let expected =
-        b"open 1 64\n1 ok t0 m1 g2 d3\n2 range\n3 ok g4 d5\n4 blocks 63 l6\nend 1 7\n";
+    let expected = b"open 1 64\n1 ok t0 m1 g2 d3\n2 range\n3 ok g4 d5\n4 blocks 63 l6\nend 1 7\n";
     assert_eq!(rt; ran.text.as_slice(), expected.as_slice());
     assert_eq!(rt; ran.status, 0);
     Ok(())
@@ -173,8 +172,7 @@ fn a_session_may_have_no_write(rt: HostRuntime) -> Result<(), Fail> {
         b"0 list 4294967295\n0 checkpoint\n0 checkpoint\n0 list 0\n",
         bay(alloc, 512, &[])?,
     )?;
-    let expected =
-        b"open 1 64\n1 blocks - l0\n2 era 2 e1\n3 era 3 e2\n4 blocks - l3\nend 3 4\n";
+    let expected = b"open 1 64\n1 blocks - l0\n2 era 2 e1\n3 era 3 e2\n4 blocks - l3\nend 3 4\n";
     assert_eq!(rt; ran.text.as_slice(), expected.as_slice());
     assert_eq!(rt; ran.status, 0);
     Ok(())

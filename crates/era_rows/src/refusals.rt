@@ -6,10 +6,12 @@ use std::test::Fail;
 #[test]
 fn other_words_are_no_command(rt: HostRuntime) -> Result<(), Fail> {
     let alloc = rt.alloc();
-    let rows: [&[&str]; 8] = [
+    let rows: [&[&str]; 10] = [
         &[],
         &["serve"],
-        &["need", "512", "8"],
+        &["need", "512"],
+        &["need", "512", "8", "8"],
+        &["need", "18446744073709551616", "8"],
         &["serve", TABLE, "--digest"],
         &["Serve", TABLE],
         &["serve", "1 512 era meta origin 8"],
