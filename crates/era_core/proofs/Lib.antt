@@ -1,7 +1,15 @@
 pub mod Words
 pub mod Numbers
+pub mod Latest
+pub mod AtOpening
+pub mod Stripes
+pub mod Tables
 pub mod Insides
 pub mod Accepted
 pub mod Sessions
 pub mod Ready
 pub mod Scheduling
+pub mod Transcribing
+pub mod Listing
+pub mod Validating
+pub mod FirstMoment

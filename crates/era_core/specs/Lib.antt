@@ -1,2 +1,4 @@
 pub mod Machine
 pub mod Schedules
+pub mod Present
+pub mod KeptState

@@ -1,0 +1,7 @@
+use Rattle.std.proofs.Common.{◌≡◌, take}
+use Rattle.std.specs.Prelude.{reverse}
+use Rattle.era_model.specs.Marking.{is_tried_in}
+use Rattle.era_core.proofs.lookups.is_tried.Given as goal
+
+abbrev pub invariant-loop-happening : goal.invariant-loop-happening
+invariant-loop-happening l = l.found ≡ is_tried_in (reverse (take l.happening-index l.h)) l.block l.era
