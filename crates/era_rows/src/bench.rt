@@ -1,7 +1,7 @@
 //! What the rows run on: a bay in memory, and streams of text.
 
 use era_base::Bytes;
-use era_disks::{FreePace, MemBay, TextSink, TextSource};
+use era_disks::{DiskCall, FreePace, MemBay, TextSink, TextSource};
 use era_top::era_top;
 use std::alloc::{AllocError, Global};
 use std::sync::Wait;
@@ -24,7 +24,7 @@ pub fn bay(alloc: Global, sectors: u64, failing: &[u64]) -> Result<MemBay, Fail>
     let mut bay = MemBay::new(alloc);
     bay.add("origin", sectors)?;
     for number in failing {
-        bay.fail_write("origin", *number)?;
+        bay.fail_disk("origin", DiskCall::Write, *number)?;
     }
     Ok(bay)
 }
