@@ -8,4 +8,6 @@ mod faults;
 #[cfg(test)]
 mod refusals;
 #[cfg(test)]
+mod streams;
+#[cfg(test)]
 mod writes;
