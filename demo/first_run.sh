@@ -1,5 +1,6 @@
 #!/bin/sh
-# Serves a short stream of writes on two new images, and shows what was sent and what was answered.
+# Serves a short stream on two new images, and shows what was sent and what was answered: writes, a checkpoint, a write
+# in the next era, and which blocks were written since each of the two eras.
 # The status is 0 only where the answers and the image are the expected ones.
 set -u
 top=$(dirname "$(dirname "$(readlink -f "$0")")")
@@ -21,6 +22,11 @@ sector() {
     echo "0 write 1 $(sector bb)"
     echo "0 write 8 $(sector cc)"
     echo "0 write 512 $(sector dd)"
+    echo "0 checkpoint"
+    echo "0 write 8 $(sector ee)"
+    echo "0 write 40 $(sector ff)"
+    echo "0 list 1"
+    echo "0 list 2"
 } > sent.txt
 
 cat > expected.txt << 'ANSWERS'
@@ -29,24 +35,31 @@ open 1 64
 2 ok g4 d5
 3 ok t6 m7 g8 d9
 4 range
-end 1 10
+5 era 2 e10
+6 ok t11 m12 g13 d14
+7 ok t15 m16 g17 d18
+8 blocks 0-1,5 l19
+9 blocks 1,5 l20
+end 2 21
 ANSWERS
 
 "$top/eractl" serve "0 512 era meta.img origin.img 8" < sent.txt > answered.txt
 status=$?
 
 echo "sent (each line cut after 24 characters):"
-cut -c1-24 sent.txt | sed 's/$/../; s/^/    /'
+sed 's/^\(.\{24\}\).*/\1../; s/^/    /' sent.txt
 echo "answered, with status $status:"
 sed 's/^/    /' answered.txt
 
-# the image: two sectors of aa and bb, and one of cc at the second block
+# the image: sectors of aa and bb in block 0, of ee in block 1 and of ff in block 5
 {
     printf '\252%.0s' $(seq 512)
     printf '\273%.0s' $(seq 512)
     head -c 3072 /dev/zero
-    printf '\314%.0s' $(seq 512)
-    head -c 257536 /dev/zero
+    printf '\356%.0s' $(seq 512)
+    head -c 15872 /dev/zero
+    printf '\377%.0s' $(seq 512)
+    head -c 241152 /dev/zero
 } > expected.img
 
 if [ "$status" -eq 0 ] && cmp answered.txt expected.txt && cmp origin.img expected.img; then

@@ -1,11 +1,11 @@
 //! A table line: how long a target is, on which devices it stands, and how large its blocks are.
 
-ghost use Rattle.std.specs.Prelude.{◌≡◌, ◌≢◌, ℕ, ◌<◌, ◌^◌, ◌∷◌, ◌++◌, decimal, IfSome, IfNone, IfOk, IsErrOf};
+ghost use Rattle.std.specs.Prelude.{◌≡◌, ◌<◌, ◌^◌, ◌∷◌, ◌++◌, decimal, IfSome, IfNone, IfOk, IsErrOf};
 ghost use Rattle.era_line.specs.Inside.{BeginsWithNoNumber, BeginsWithNoName};
 ghost use Rattle.era_line.specs.TableLine.{HasNoSpace, IsName, IsTableLine, IsNoTableLine};
 
+use crate::decimal::read_decimal;
 use era_base::Name;
-use itoa::Buffer;
 use std::alloc::Global;
 
 /// What a table line says: the target's length, its devices' names and its block size, in sectors of 512 bytes.
@@ -69,7 +69,7 @@ fn parts_of(text: &str) -> Option<Parts<'_>>
     let rest = rest.strip_prefix("era ")?;
     let (meta, rest) = next_name(rest)?;
     let (origin, rest) = next_name(rest)?;
-    let block_sectors = number(rest)?;
+    let block_sectors = read_decimal(rest)?;
     Some(Parts {
         length,
         meta,
@@ -85,7 +85,7 @@ fn next_number(text: &str) -> Option<(u64, &str)>
     ensures none { IfNone result (BeginsWithNoNumber text.now) }
 {
     let (first, rest) = next_part(text)?;
-    Some((number(first)?, rest))
+    Some((read_decimal(first)?, rest))
 }
 
 // The name that stands before the first space, and what stands behind that space.
@@ -108,19 +108,4 @@ fn next_part(text: &str) -> Option<(&str, &str)>
     ensures none { IfNone result (HasNoSpace text.now) }
 {
     text.split_once(' ')
-}
-
-// The number below 2^64 of which this is the decimal.
-fn number(text: &str) -> Option<u64>
-    ensures some { IfSome result (λ value. text.now ≡ decimal value) }
-    ensures none { IfNone result ((value : ℕ) → value < 2 ^ 64 → text.now ≢ decimal value) }
-{
-    let Ok(value) = text.parse::<u64>() else {
-        return None;
-    };
-    if Buffer::new().format(value) == text {
-        Some(value)
-    } else {
-        None
-    }
 }

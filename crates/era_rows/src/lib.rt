@@ -6,6 +6,12 @@ mod bench;
 #[cfg(test)]
 mod faults;
 #[cfg(test)]
+mod images;
+#[cfg(test)]
+mod lists;
+#[cfg(test)]
+mod needs;
+#[cfg(test)]
 mod refusals;
 #[cfg(test)]
 mod streams;

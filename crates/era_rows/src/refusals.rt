@@ -6,10 +6,12 @@ use std::test::Fail;
 #[test]
 fn other_words_are_no_command(rt: HostRuntime) -> Result<(), Fail> {
     let alloc = rt.alloc();
-    let rows: [&[&str]; 8] = [
+    let rows: [&[&str]; 10] = [
         &[],
         &["serve"],
-        &["need", "512", "8"],
+        &["need", "512"],
+        &["need", "512", "8", "8"],
+        &["need", "18446744073709551616", "8"],
         &["serve", TABLE, "--digest"],
         &["Serve", TABLE],
         &["serve", "1 512 era meta origin 8"],
@@ -93,11 +95,18 @@ fn is_refused<R: std::thread::Threads + std::sync::Wait + Sync>(
 #[test]
 fn a_refused_line_leaves_the_origin_as_it_was(rt: HostRuntime) -> Result<(), Fail> {
     let alloc = rt.alloc();
-    let rows: [&[u8]; 14] = [
+    let rows: [&[u8]; 21] = [
         b"run\n",
         b"\n",
-        b"0 checkpoint\n",
-        b"0 list 1\n",
+        b"0 checkpoint 1\n",
+        b"0 checkpoint \n",
+        b"1 checkpoint\n",
+        b"0 list\n",
+        b"0 list \n",
+        b"0 list 01\n",
+        b"0 list 4294967296\n",
+        b"0 list 1 2\n",
+        b"0 list_snap 1\n",
         b"0 write\n",
         b"0 write 0\n",
         b"0 write 0 \n",

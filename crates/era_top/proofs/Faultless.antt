@@ -1,5 +1,5 @@
 -- What a call ends with where nothing is refused and no count rises.
-use Rattle.std.proofs.Common.{◌≡◌, ◌⊎◌, inl, inr, ℕ, ◌<◌, ◌≤◌, List, [], refl, ap, sym, ◌∙◌, subst, arith}
+use Rattle.std.proofs.Common.{◌≡◌, ◌⊎◌, inl, inr, ℕ, ◌<◌, ◌≤◌, List, [], ◌∷◌, refl, ap, sym, ◌∙◌, subst, arith}
 use Rattle.std.specs.Prelude.{Option, Some}
 use Rattle.era_base.specs.declared.geometry.GeomError.{GeomError}
 use Rattle.era_base.specs.declared.geometry.Geometry.{Geometry}
@@ -17,10 +17,10 @@ use Rattle.era_top.specs.declared.status.Status.{Status}
 use Rattle.era_top.specs.declared.status.Status.TheVariants.{Done, Usage, Line, Fault, Memory, Refused, Source, Sink}
 use Rattle.era_top.specs.Around.{DiskFacts, BayAround, StreamsAround, SomeCountRose, IsFaultless}
 use Rattle.era_top.specs.Refusals.{refusal_status}
-use Rattle.era_top.specs.Reports.{Report, Refuses, Serves, Reports, IsReported, IsCauseOf, IsNoGeometry}
+use Rattle.era_top.specs.Reports.{Report, Refuses, Needs, Serves, Reports, IsReported, IsCauseOf, IsNoGeometry}
 use Rattle.era_top.specs.Sessions.{Session, Around, EndsBy}
 use Rattle.era_top.specs.Top.{IsServable, number_of}
-use Rattle.era_top.specs.Words.{IsServe}
+use Rattle.era_top.specs.Words.{IsServe, IsNeed}
 
 -- a count that didn't rise
 pub not-rose : (before now : ℕ) → NoneRose before now → Rose before now → ⊥
@@ -58,16 +58,22 @@ geometry-never (TooManyBlocks count) sectors size sectors' size' s b is some lim
     let e : blocks_of sectors' size' ≡ blocks_of sectors size = ap (λ n. blocks_of n size') s ∙ ap (blocks_of sectors) b in
     omega (arith, cause.1, cause.2, e)
 
+-- a serve command is no need command
+pub serve-not_need : (words : List (List ℕ)) (line : TableLine) (sectors size : ℕ) → IsServe words line → IsNeed words sectors size → ⊥
+serve-not_need words line sectors size serve need = let a = serve.two in let b = need.three in absurd (cc)
+
 -- what can be served isn't refused
 pub refusal-never : (D : Type 0) (words : List (List ℕ)) (bay : BayAround D) (left : Option (List ℕ)) (refusal : Refusal)
     → IsServable words bay.sizes left → IsRefusing (refusal_status refusal) → IsCauseOf words bay refusal → ⊥
-refusal-never D words bay left NoCommand servable refusing cause = cause.0 servable.line servable.serve
+refusal-never D words bay left NoCommand servable refusing cause = cause.0.0 servable.line servable.serve
 refusal-never D words bay left NoRoom servable refusing cause = refusing
-refusal-never D words bay left (NoGeometry error size) servable refusing cause =
-    let line = cause.0.0 in
-    let same = same_line words servable.line line servable.serve cause.0.1 in
-    geometry-never error servable.line.length servable.line.block_sectors line.length line.block_sectors same.sectors same.block_sectors
-    servable.block_size servable.some servable.limited cause.0.3
+refusal-never D words bay left (NoGeometry error size) servable refusing cause = elim cause.0.1 [
+  | inl serve ↦
+      let same = same_line words servable.line serve.0 servable.serve serve.1 in
+      geometry-never error servable.line.length servable.line.block_sectors cause.0.0 size (serve.2 ∙ same.sectors) (serve.3 ∙ same.block_sectors)
+      servable.block_size servable.some servable.limited cause.0.2
+  | inr need ↦ serve-not_need words servable.line cause.0.0 size servable.serve need
+]
 refusal-never D words bay left (BayFault count) servable refusing cause = refusing
 refusal-never D words bay left (TooSmall have need) servable refusing cause =
     let line = cause.0.0 in
@@ -96,6 +102,7 @@ pub report-never : (D : Type 0) (words : List (List ℕ)) (contents : List ℕ) 
     → IsReported words contents disks bay streams report ended → ⊥
 report-never D words contents disks bay streams (Refuses refusal) ended servable refusing right =
     refusal-never D words bay streams.left refusal servable (subst IsRefusing right.0 refusing) right.1
+report-never D words contents disks bay streams (Needs blocks) ended servable refusing right = subst IsRefusing right.0 refusing
 report-never D words contents disks bay streams (Serves session) ended servable refusing right =
     session-never words bay.sizes streams.left right.geometry _ session ended refl servable refusing right.cause
 

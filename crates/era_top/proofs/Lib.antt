@@ -21,4 +21,6 @@ pub mod RefusalTexts
 pub mod SectorLists
 pub mod WordLists
 pub mod Serving
+pub mod Needing
 pub mod Faultless
+pub mod Exactly

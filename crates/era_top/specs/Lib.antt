@@ -7,5 +7,7 @@ pub mod Around
 pub mod Words
 pub mod Refusals
 pub mod Reports
+pub mod Needs
 pub mod Openings
+pub mod Exactly
 pub mod Top

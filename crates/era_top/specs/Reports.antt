@@ -1,29 +1,32 @@
 -- What a call reports, and its exact cause.
-use Rattle.std.specs.Prelude.{◌≡◌, ℕ, ◌<◌, ◌≤◌, List, [], ◌∷◌, ◌++◌, true, Some}
+use Rattle.std.specs.Prelude.{◌≡◌, ℕ, ◌<◌, ◌≤◌, List, [], ◌∷◌, ◌++◌, true, codes, decimal, Some}
 use Rattle.era_base.specs.declared.geometry.Geometry.{Geometry}
 use Rattle.era_base.specs.declared.geometry.GeomError.{GeomError}
 use Rattle.era_base.specs.declared.geometry.GeomError.TheVariants.{BadBlockSize, NoBlocks, TooManyBlocks}
 use Rattle.era_base.specs.Bay.{new_loan, ended_loan, HasContent, SameReads, SameReadsBut}
 use Rattle.era_base.specs.Faults.{Rose}
-use Rattle.era_base.specs.Geometry.{IsBlockSize, blocks_of}
+use Rattle.era_base.specs.Geometry.{IsBlockSize, blocks_of, need_of}
 use Rattle.era_line.specs.declared.table_line.TableLine.{TableLine}
 use Rattle.era_top.specs.declared.refusal.Refusal.{Refusal}
 use Rattle.era_top.specs.declared.refusal.Refusal.TheVariants.{NoCommand, NoRoom, NoGeometry, BayFault, TooSmall}
 use Rattle.era_top.specs.declared.status.Status.{Status}
+use Rattle.era_top.specs.declared.status.Status.TheVariants.{Done}
 use Rattle.era_top.specs.Around.{DiskFacts, BayAround, StreamsAround}
 use Rattle.era_top.specs.Refusals.{refusal_text, refusal_status}
 use Rattle.era_top.specs.Runs.{ReadsAsJournal}
 use Rattle.era_top.specs.Sessions.{Session, session_text, Around, IsSession, EndsBy, Prints}
-use Rattle.era_top.specs.Words.{IsServe, IsNoServe}
+use Rattle.era_top.specs.Words.{IsServe, IsNeed, IsNoCommand, GiveNumbers}
 
--- A call reports why it serves nothing, or the session that it served.
+-- A call reports why it does nothing, how many metadata blocks an origin needs, or the session that it served.
 pub data Report : Type 0 where
   Refuses : (refusal : Refusal) → Report
+  Needs : (blocks : ℕ) → Report
   Serves : (session : Session) → Report
 
 -- The text of a report.
 abbrev pub report_text : Report → List ℕ
 report_text (Refuses refusal) = refusal_text refusal
+report_text (Needs blocks) = codes "need " ++ decimal blocks ++ 10 ∷ []
 report_text (Serves session) = session_text session
 
 -- A length and a block size are no geometry for this reason: the first that there is of a bad block size, no sector and too many blocks.
@@ -43,13 +46,12 @@ pub record LeavesBay {D : Type 0} (bay : BayAround D) : Type 0 where
   pub loans : bay.loans' ≡ bay.loans
   pub reads : SameReads bay.reads bay.reads'
 
--- The exact cause of a refusal: the words are no serve command; memory was refused, which may be at any time; their numbers are no geometry; the bay failed, and the count is its own; the origin is smaller than the table line says.
+-- The exact cause of a refusal: the words are no command; memory was refused, which may be at any time; their numbers are no geometry; the bay failed, and the count is its own; the origin is smaller than the table line says.
 abbrev pub IsCauseOf : {D : Type 0} → List (List ℕ) → BayAround D → Refusal → Type 0
-IsCauseOf words bay NoCommand = IsNoServe words × (bay.faults' ≡ bay.faults)
+IsCauseOf words bay NoCommand = IsNoCommand words × (bay.faults' ≡ bay.faults)
 IsCauseOf words bay NoRoom = bay.faults' ≡ bay.faults
 IsCauseOf words bay (NoGeometry error size) =
-    ((line : TableLine) × IsServe words line × (size ≡ line.block_sectors) × IsNoGeometry error line.length line.block_sectors)
-    × (bay.faults' ≡ bay.faults)
+    ((sectors : ℕ) × GiveNumbers words sectors size × IsNoGeometry error sectors size) × (bay.faults' ≡ bay.faults)
 IsCauseOf words bay (BayFault count) =
     ((line : TableLine) × (geometry : Geometry) × AsksFor words line geometry)
     × (count ≡ bay.faults') × Rose bay.faults bay.faults'
@@ -101,10 +103,20 @@ pub record IsServed {D : Type 0} (words : List (List ℕ)) (contents : List ℕ)
   pub others : SameReadsBut line.origin 0 line.length bay.reads bay.reads'
   pub faults : bay.faults' ≡ bay.faults
 
--- A report is right, and the call ends with this status: a refusal came by its exact cause, and the bay and the source are as before; or a session was served.
+-- The words are a need command, and the origin that they tell of needs so many metadata blocks. The bay is as before.
+pub record IsNeeded {D : Type 0} (words : List (List ℕ)) (bay : BayAround D) (blocks : ℕ) : Type 0 where
+  pub geometry : Geometry
+  pub asked : IsNeed words geometry.sectors geometry.block_sectors
+  pub need : blocks ≡ need_of (blocks_of geometry.sectors geometry.block_sectors)
+  pub left : LeavesBay bay
+  pub faults : bay.faults' ≡ bay.faults
+
+-- A report is right, and the call ends with this status: a refusal came by its exact cause, and the bay and the source are as before; or the need is told, and they are too; or a session was served.
 abbrev pub IsReported : {D : Type 0} → List (List ℕ) → List ℕ → DiskFacts D → BayAround D → StreamsAround → Report → Status → Type 0
 IsReported words contents disks bay streams (Refuses refusal) ended =
     (ended ≡ refusal_status refusal) × IsCauseOf words bay refusal × LeavesBay bay × (streams.left' ≡ streams.left)
+IsReported words contents disks bay streams (Needs blocks) ended =
+    (ended ≡ Done) × IsNeeded words bay blocks × (streams.left' ≡ streams.left)
 IsReported words contents disks bay streams (Serves session) ended = IsServed words contents disks bay streams session ended
 
 -- A call went so, where the origin had these contents: its report is right, and its text was given.

@@ -3,6 +3,7 @@
 
 mod block_list;
 mod events;
+mod need;
 mod number;
 mod origin;
 mod outcome;

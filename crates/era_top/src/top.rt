@@ -7,22 +7,26 @@ ghost use Rattle.era_top.specs.Around.{SomeCountRose, AllReturned, IsFaultless};
 ghost use Rattle.era_top.specs.Openings.{Opens, HasServed};
 ghost use Rattle.era_top.specs.Reports.{Reports};
 ghost use Rattle.era_top.specs.Top.{EndsAs, IsNumber, IsServable};
-ghost use Rattle.era_top.specs.Words.{texts_of};
+ghost use Rattle.era_top.specs.Exactly.{EndsExactly};
+ghost use Rattle.era_top.specs.Words.{texts_of, IsNeed, IsNoNeed};
+ghost use Rattle.era_base.specs.declared.geometry.Geometry.{Geometry as geometry_numbers};
 
+use crate::need::tell_need;
 use crate::number::number;
 use crate::origin::open_origin;
 use crate::refusal::Refusal;
 use crate::refuse::refuse;
 use crate::session::serve;
 use crate::status::Status;
-use crate::words::{WordsError, read_words};
+use crate::words::{WordsError, read_need, read_words};
 use era_base::{Bay, Geometry, Pace, Sink, Source};
 use std::alloc::Global;
 use std::sync::Wait;
 use std::thread::Threads;
 
-/// Opens the origin that the words name.
+/// Opens the origin that the words name, which are no need command.
 fn open<B: Bay>(alloc: Global, words: &[String], bay: &mut B) -> Result<(Geometry, B::D), Refusal>
+    requires { IsNoNeed (texts_of words.now) }
     ensures { Opens (texts_of words.now)
         (record { place = B.D.place; sectors = B.D.sectors; history = B.D.history; faults = B.D.faults; tells = B.D.tells })
         (record {
@@ -97,6 +101,67 @@ fn serve_lent<S: Source, K: Sink, B: Bay>(
     status
 }
 
+/// Serves what the words say, which are no need command, and tells how it ended.
+fn run_serve<S: Source, K: Sink, B: Bay>(
+    alloc: Global,
+    words: &[String],
+    source: &mut S,
+    sink: &mut K,
+    bay: &mut B,
+) -> Status
+    requires { IsNoNeed (texts_of words.now) }
+    ensures single_lane_session { (contents : List ℕ) → Reports (texts_of words.now) contents
+        (record { place = B.D.place; sectors = B.D.sectors; history = B.D.history; faults = B.D.faults; tells = B.D.tells })
+        (record {
+          sizes = B.sizes bay.new;
+          reads = B.reads bay.old;
+          reads' = B.reads bay.new;
+          loans = B.loans bay.old;
+          loans' = B.loans bay.new;
+          faults = B.faults bay.old;
+          faults' = B.faults bay.new;
+        })
+        (record {
+          left = S.left source.old;
+          left' = S.left source.new;
+          source_faults = S.faults source.old;
+          source_faults' = S.faults source.new;
+          given = K.given sink.old;
+          given' = K.given sink.new;
+          sink_faults = K.faults sink.old;
+          sink_faults' = K.faults sink.new;
+        })
+        result }
+    ensures fault { result ≡ Status.Fault → SomeCountRose
+        (record { place = B.D.place; sectors = B.D.sectors; history = B.D.history; faults = B.D.faults; tells = B.D.tells })
+        (record {
+          sizes = B.sizes bay.new;
+          reads = B.reads bay.old;
+          reads' = B.reads bay.new;
+          loans = B.loans bay.old;
+          loans' = B.loans bay.new;
+          faults = B.faults bay.old;
+          faults' = B.faults bay.new;
+        }) }
+    ensures source { result ≡ Status.Source → Rose (S.faults source.old) (S.faults source.new) }
+    ensures sink { result ≡ Status.Sink → Rose (K.faults sink.old) (K.faults sink.new) }
+    ensures returned { AllReturned
+        (record {
+          sizes = B.sizes bay.new;
+          reads = B.reads bay.old;
+          reads' = B.reads bay.new;
+          loans = B.loans bay.old;
+          loans' = B.loans bay.new;
+          faults = B.faults bay.old;
+          faults' = B.faults bay.new;
+        }) }
+{
+    match open(alloc, words, bay) {
+        Ok((geometry, disk)) => serve_lent(alloc, &geometry, disk, source, sink, bay),
+        Err(refusal) => refuse(sink, refusal),
+    }
+}
+
 /// Does what the words say, and tells how it ended.
 pub fn run_words<S: Source, K: Sink, B: Bay>(
     alloc: Global,
@@ -150,10 +215,12 @@ pub fn run_words<S: Source, K: Sink, B: Bay>(
           faults = B.faults bay.old;
           faults' = B.faults bay.new;
         }) }
+    ensures need { (geometry : geometry_numbers) → IsNeed (texts_of words.now) geometry.sectors geometry.block_sectors
+        → (result ≡ Status.Done) ⊎ (result ≡ Status.Sink) }
 {
-    match open(alloc, words, bay) {
-        Ok((geometry, disk)) => serve_lent(alloc, &geometry, disk, source, sink, bay),
-        Err(refusal) => refuse(sink, refusal),
+    match read_need(words) {
+        Some((sectors, block_sectors)) => tell_need(sink, sectors, block_sectors),
+        None => run_serve(alloc, words, source, sink, bay),
     }
 }
 
@@ -213,6 +280,7 @@ pub fn era_top<R: Threads + Wait + Sync, S: Source, K: Sink, B: Bay, P: Pace + S
           faults = B.faults bay.old;
           faults' = B.faults bay.new;
         }) }
+    ensures exact { EndsExactly (texts_of words.now) (B.sizes bay.new) result }
     ensures faultless { IsServable (texts_of words.now) (B.sizes bay.new) (S.left source.old)
         → IsFaultless
         (record { place = B.D.place; sectors = B.D.sectors; history = B.D.history; faults = B.D.faults; tells = B.D.tells })

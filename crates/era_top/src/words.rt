@@ -1,9 +1,9 @@
 //! The words of the program.
 
-ghost use Rattle.era_top.specs.Words.{texts_of, IsServe, IsNoServe};
-ghost use Rattle.std.specs.Prelude.{IfOk, IsErrOf};
+ghost use Rattle.era_top.specs.Words.{texts_of, IsServe, IsNeed, IsNoNeed, IsNoServe};
+ghost use Rattle.std.specs.Prelude.{IfNone, IfOk, IfSome, IsErrOf};
 
-use era_line::{LineFault, TableLine, read_table};
+use era_line::{LineFault, TableLine, read_decimal, read_table};
 use std::alloc::Global;
 
 /// Why no command was read.
@@ -31,4 +31,20 @@ pub fn read_words(alloc: Global, words: &[String]) -> Result<TableLine, WordsErr
         Err(LineFault::NotATable) => Err(WordsError::Usage),
         Err(LineFault::Memory) => Err(WordsError::Memory),
     }
+}
+
+/// The length and the block size that the words of a need command have, in sectors.
+pub fn read_need(words: &[String]) -> Option<(u64, u64)>
+    ensures some { IfSome result (λ need. IsNeed (texts_of words.now) need.0 need.1) }
+    ensures none { IfNone result (IsNoNeed (texts_of words.now)) }
+{
+    let [command, sectors, block_sectors] = words else {
+        return None;
+    };
+    if command.as_str() != "need" {
+        return None;
+    }
+    let sectors = read_decimal(sectors.as_str())?;
+    let block_sectors = read_decimal(block_sectors.as_str())?;
+    Some((sectors, block_sectors))
 }

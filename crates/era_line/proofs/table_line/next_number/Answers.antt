@@ -9,8 +9,8 @@ returns-in_err-first-clause-none c = if_none {P = BeginsWithNoNumber c.args.text
     uncut c.args.text.now (decimal value) rest c.in_err-first.ensures.none e)
 
 -- no decimal
-pub returns-in_err-number-clause-none : goal.returns-in_err-number-clause-none
-returns-in_err-number-clause-none c = if_none {P = BeginsWithNoNumber c.args.text.now} _ (λ value rest small e.
+pub returns-in_err-read_decimal-clause-none : goal.returns-in_err-read_decimal-clause-none
+returns-in_err-read_decimal-clause-none c = if_none {P = BeginsWithNoNumber c.args.text.now} _ (λ value rest small e.
     let cut = c.in_ok-first.ensures.some in
     let same = cut_same c.args.text.now c.in_ok-first.first.now (decimal value) c.in_ok-first.rest.now rest cut.1 (HasNoSpace-decimal value small) cut.0 e in
-    c.in_err-number.ensures.none value small same.0)
+    c.in_err-read_decimal.ensures.none value small same.0)

@@ -1,4 +1,4 @@
-use Rattle.std.proofs.Common.{rules, refl, ap}
+use Rattle.std.proofs.Common.{rules, refl, ap, inl}
 use Rattle.std.specs.Prelude.{Err}
 use Rattle.era_top.specs.Words.{texts_of}
 use Rattle.era_top.proofs.Causes.{is_no_geometry, origin_cause}
@@ -6,16 +6,15 @@ use Rattle.era_top.proofs.top.open.Goals as goal
 
 -- the words are no command
 pub returns-in-Err-Usage : goal.returns-in-Err-Usage
-returns-in-Err-Usage g c = ((c.in-Err-Usage.ensures.usage (ap (λ error. Err error) c.in-Err-Usage.field-0-is), refl), search rules)
+returns-in-Err-Usage g c = (((c.in-Err-Usage.ensures.usage (ap (λ error. Err error) c.in-Err-Usage.field-0-is), c.requires), refl), search rules)
 
 -- the numbers are no geometry
 pub returns-in-Err : goal.returns-in-Err
 returns-in-Err g c = (
   (
     (
-      c.in-Ok.line,
-      c.in-Ok.ensures.ok,
-      refl,
+      c.in-Ok.line.length,
+      inl (c.in-Ok.line, c.in-Ok.ensures.ok, refl, refl),
       is_no_geometry c.new.result c.in-Err.error c.in-Ok.line.length c.in-Ok.line.block_sectors c.in-Err.is
           c.new.ensures.block_size c.new.ensures.none c.new.ensures.many,
     ),

@@ -1,0 +1,9 @@
+pub mod NumberBytes
+pub mod PageFields
+pub mod WrittenBytes
+pub mod ListFields
+pub mod ListBytes
+pub mod RootParts
+pub mod RootRead
+pub mod RootWritten
+pub mod PageBytes

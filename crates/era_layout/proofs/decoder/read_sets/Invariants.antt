@@ -1,0 +1,9 @@
+use Rattle.std.proofs.Common.{◌≡◌, ◌+◌, ◌-◌, ◌*◌, ◌≤◌, ◌++◌}
+use Rattle.era_layout.specs.Damage.{sets_at}
+use Rattle.era_layout.proofs.decoder.read_sets.Given as goal
+
+abbrev pub invariant-loop : goal.invariant-loop
+invariant-loop l = record {
+  within : l.at ≤ l.offset + 12 * l.counter;
+  same : l.sets ++ sets_at l.bytes l.width l.at (l.count - l.counter) ≡ sets_at l.bytes l.width l.offset l.count;
+}

@@ -1,0 +1,9 @@
+use Rattle.std.proofs.Common.{◌≡◌, ◌+◌, ◌*◌, ◌++◌, take}
+use Rattle.era_layout.specs.Numbers.{u64s_bytes}
+use Rattle.era_layout.proofs.numbers.write_u64s.Given as goal
+
+abbrev pub invariant-loop-number : goal.invariant-loop-number
+invariant-loop-number l = record {
+  behind : l.behind ≡ l.offset + 8 * l.number-index;
+  front : take l.behind l.into ≡ take l.offset l.fn.into ++ u64s_bytes (take l.number-index l.numbers);
+}

@@ -1,0 +1,4 @@
+pub mod Numbers
+pub mod Pages
+pub mod Root
+pub mod Damage

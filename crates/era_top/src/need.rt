@@ -1,0 +1,40 @@
+//! The command that tells how many metadata blocks an origin needs.
+
+ghost use Rattle.std.specs.Prelude.{◌≡◌};
+ghost use Rattle.era_base.specs.Faults.{Rose};
+ghost use Rattle.era_top.specs.Needs.{TellsNeed};
+
+use crate::part::Part::{Number, Text};
+use crate::refusal::Refusal;
+use crate::refuse::refuse;
+use crate::session_lines::give_last;
+use crate::status::Status;
+use era_base::{Geometry, Sink};
+
+/// Tells how many metadata blocks of 4,096 bytes an origin of `sectors` sectors in blocks of `block_sectors` sectors
+/// needs, or why these are no geometry.
+pub fn tell_need<K: Sink>(sink: &mut K, sectors: u64, block_sectors: u64) -> Status
+    ensures told { TellsNeed sectors block_sectors (K.given sink.old) (K.given sink.new) result }
+    ensures sink { result ≡ Status.Sink → Rose (K.faults sink.old) (K.faults sink.new) }
+    ensures fault { result ≡ Status.Fault → ⊥ }
+    ensures source { result ≡ Status.Source → ⊥ }
+{
+    match Geometry::new(sectors, block_sectors) {
+        Ok(geometry) => give_last(
+            sink,
+            &[
+                Text(b"need "),
+                Number(u64::from(geometry.need())),
+                Text(b"\n"),
+            ],
+            Status::Done,
+        ),
+        Err(error) => refuse(
+            sink,
+            Refusal::NoGeometry {
+                error,
+                size: block_sectors,
+            },
+        ),
+    }
+}
