@@ -4,7 +4,7 @@ use Rattle.era_base.specs.Bay.{Loan, IsFree}
 use Rattle.era_disks.specs.Loans.{loans_of}
 use Rattle.era_disks.specs.Devices.{device_of, device_reads, device_size, device_calls, IsFoundAt}
 use Rattle.era_disks.specs.Calls.{Calls, NextFails}
-use Rattle.era_disks.specs.DiskCalls.{restarted_calls}
+use Rattle.era_disks.specs.DiskCalls.{no_disk_calls, restarted_calls}
 use Rattle.era_disks.specs.MemDisk.{place_of, sectors_of, faults_of, starved_of}
 use Rattle.era_disks.specs.declared.disk_calls.DiskCalls.{DiskCalls}
 use Rattle.era_disks.specs.declared.mem_disk.MemDisk.{MemDisk}
@@ -29,6 +29,16 @@ bay_faults bay = bay.faults
 -- The calls that fail of each disk of a device that is lent.
 abbrev pub calls_of : MemBay → List ℕ → Option DiskCalls
 calls_of bay name = device_calls (device_of bay.devices.items name)
+
+-- The calls that fail of the disks of each device are the same in both.
+abbrev pub SameCalls : MemBay → MemBay → Type 0
+SameCalls old new = (name : List ℕ) → calls_of new name ≡ calls_of old name
+
+-- No call fails any more of the disks of a device; those of other devices, and of the bay, are the same.
+pub record ForgetsCalls (name : List ℕ) (old new : MemBay) : Type 0 where
+  pub device : (calls : DiskCalls) → calls_of new name ≡ Some calls → calls ≡ no_disk_calls
+  pub others : (other : List ℕ) → (other ≡ name → ⊥) → calls_of new other ≡ calls_of old other
+  pub bay : new.calls ≡ old.calls
 
 -- A disk that was just lent: the calls of its device fail and none was begun, and it has not failed.
 pub record IsFresh (bay : MemBay) (name : List ℕ) (disk : MemDisk) : Type 0 where

@@ -1,6 +1,6 @@
 //! A device of a bay in memory.
 
-ghost use Rattle.std.specs.Prelude.{◌≡◌, ◌≢◌, [], ◌∷◌, ◌++◌, ◌+◌, ◌≤◌, length, take, drop, position, Some, None, IfSome, IfNone, IfOk, OnOk};
+ghost use Rattle.std.specs.Prelude.{◌≡◌, ◌≢◌, [], ◌∷◌, ◌++◌, ◌+◌, ◌≤◌, length, take, drop, position, Some, None, IfSome, IfNone, IfOk, OnOk, OnErr};
 ghost use Rattle.era_disks.specs.Devices.{IsFoundAt, device_of, has_name};
 ghost use Rattle.era_disks.specs.DiskCalls.{no_disk_calls, also_failing_call, restarted_calls};
 ghost use Rattle.era_disks.specs.MemDisk.{place_of, sectors_of, faults_of, starved_of};
@@ -52,6 +52,7 @@ impl Device {
     /// From now on the call of this kind with this number fails of each disk that is lent, until a disk is put back.
     pub fn fail(&mut self, call: DiskCall, number: u64) -> Result<(), Memory>
         ensures ok { OnOk result (self.new.calls ≡ also_failing_call call number self.old.calls) }
+        ensures err { OnErr result (self.new.calls ≡ self.old.calls) }
         ensures name { self.new.name ≡ self.old.name }
         ensures rows { self.new.state.rows.items ≡ self.old.state.rows.items }
     {

@@ -29,9 +29,9 @@ impl MemBay {
     ghost use Rattle.era_disks.specs.MemDisk.{place_of, sectors_of, history_of};
     ghost use Rattle.era_disks.specs.Calls.{one_more};
     ghost use Rattle.era_disks.specs.BayCalls.{no_bay_calls, also_failing_at};
-    ghost use Rattle.era_disks.specs.DiskCalls.{also_failing_call, restarted_calls};
+    ghost use Rattle.era_disks.specs.DiskCalls.{no_disk_calls, also_failing_call};
     ghost use Rattle.era_disks.specs.declared.disk_calls.DiskCalls.{DiskCalls};
-    ghost use Rattle.era_disks.specs.MemBay.{sizes_of, reads_of, bay_loans, bay_faults, calls_of, IsFresh, IsRefusedAt, LiesAt};
+    ghost use Rattle.era_disks.specs.MemBay.{sizes_of, reads_of, bay_loans, bay_faults, calls_of, SameCalls, ForgetsCalls, IsFresh, IsRefusedAt, LiesAt};
     ghost use Rattle.era_disks.specs.Devices.{IsFoundAt, device_of, device_length};
 
     /// A bay that holds no device, and of which no call fails. It takes no memory.
@@ -55,10 +55,13 @@ impl MemBay {
         requires { sizes_of self.old name.now ≡ None }
         ensures size { OnOk result (sizes_of self.new name.now ≡ Some sectors) }
         ensures zeros { OnOk result (HasContent (reads_of self.new) name.now sectors (replicate (sectors * 512) 0)) }
+        ensures calls { OnOk result (calls_of self.new name.now ≡ Some no_disk_calls) }
         ensures others { (other : List ℕ) → (other ≡ name.now → ⊥) → (sizes_of self.new other ≡ sizes_of self.old other)
-            × ((sector : ℕ) → reads_of self.new other sector ≡ reads_of self.old other sector) }
+            × ((sector : ℕ) → reads_of self.new other sector ≡ reads_of self.old other sector)
+            × (calls_of self.new other ≡ calls_of self.old other) }
         ensures err { OnErr result (self.new.devices.items ≡ self.old.devices.items) }
-        ensures rest { (bay_loans self.new ≡ bay_loans self.old) × (bay_faults self.new ≡ bay_faults self.old) }
+        ensures rest { (bay_loans self.new ≡ bay_loans self.old) × (bay_faults self.new ≡ bay_faults self.old)
+            × (self.new.calls ≡ self.old.calls) }
     {
         let device = Device {
             name: Name::from_text(self.alloc, name)?,
@@ -94,15 +97,17 @@ impl MemBay {
     pub fn fail_disk(&mut self, name: &str, call: DiskCall, number: u64) -> Result<(), Memory>
         ensures listed { (calls : DiskCalls) → calls_of self.old name.now ≡ Some calls
             → OnOk result (calls_of self.new name.now ≡ Some (also_failing_call call number calls)) }
+        ensures others { (other : List ℕ) → (other ≡ name.now → ⊥) → calls_of self.new other ≡ calls_of self.old other }
+        ensures err { OnErr result (SameCalls self.old self.new) }
         ensures sizes { (other : List ℕ) → sizes_of self.new other ≡ sizes_of self.old other }
         ensures reads { (other : List ℕ) (sector : ℕ) → reads_of self.new other sector ≡ reads_of self.old other sector }
-        ensures rest { (bay_loans self.new ≡ bay_loans self.old) × (bay_faults self.new ≡ bay_faults self.old) }
-        ensures calls { self.new.calls ≡ self.old.calls }
+        ensures rest { (bay_loans self.new ≡ bay_loans self.old) × (bay_faults self.new ≡ bay_faults self.old)
+            × (self.new.calls ≡ self.old.calls) }
     {
-        if let Some(index) = find_device(self.devices.as_slice(), name) {
-            self.devices[index].fail(call, number)?;
+        match find_device(self.devices.as_slice(), name) {
+            Some(index) => self.devices[index].fail(call, number),
+            None => Ok(()),
         }
-        Ok(())
     }
 
     /// The number of sectors of a device.
@@ -195,6 +200,7 @@ impl MemBay {
         ensures content { NowReadsAs (reads_of self.new) disk.device disk.first (sectors_of disk) (history_of disk).now }
         ensures others { SameReadsBut disk.device disk.first (sectors_of disk) (reads_of self.old) (reads_of self.new) }
         ensures sizes { (name : List ℕ) → sizes_of self.new name ≡ sizes_of self.old name }
+        ensures calls { ForgetsCalls disk.device self.old self.new }
         ensures rest { (bay_loans self.new ≡ bay_loans self.old) × (bay_faults self.new ≡ bay_faults self.old) × (self.new.calls ≡ self.old.calls) }
     {
         let MemDisk {
@@ -212,10 +218,10 @@ impl MemBay {
 
 impl Bay for MemBay {
     ghost use Rattle.std.specs.Prelude.{◌≡◌, ◌↔◌, ◌⊎◌, ℕ, ◌+◌, ◌≤◌, [], ◌∷◌, ◌++◌, Some, None, IfOk, OnOk, OnErr, IsErrOf};
-    ghost use Rattle.era_base.specs.Bay.{new_loan, ReadsAs, SameReads, KeepsSizes, IsFree, HasBayCause};
+    ghost use Rattle.era_base.specs.Bay.{new_loan, ReadsAs, NowReadsAs, SameReads, SameReadsBut, KeepsSizes, IsFree, IsOut, EndsLoan, HasBayCause};
     ghost use Rattle.era_disks.specs.Calls.{NextFails, one_begun, one_more};
     ghost use Rattle.era_disks.specs.MemDisk.{place_of, sectors_of, history_of};
-    ghost use Rattle.era_disks.specs.MemBay.{sizes_of, reads_of, bay_loans, bay_faults, IsFresh, WontLend};
+    ghost use Rattle.era_disks.specs.MemBay.{sizes_of, reads_of, bay_loans, bay_faults, SameCalls, ForgetsCalls, IsFresh, WontLend};
 
     type D = MemDisk;
 
@@ -236,7 +242,8 @@ impl Bay for MemBay {
             × (IsErrOf result BayError.Failed → bay_faults self.new ≡ one_more (bay_faults self.old)) }
         ensures refused { IsErrOf result BayError.Failed ↔ (NextFails self.old.calls.sizes ⊎ (sizes_of self.old name.now ≡ None)) }
         ensures never { IsErrOf result BayError.Memory → ⊥ }
-        ensures calls { self.new.calls ≡ record self.old.calls { sizes = one_begun self.old.calls.sizes } }
+        ensures calls { (self.new.calls ≡ record self.old.calls { sizes = one_begun self.old.calls.sizes })
+            × SameCalls self.old self.new }
     {
         if self.calls.sizes.begin() {
             return self.refuse();
@@ -256,7 +263,8 @@ impl Bay for MemBay {
         ensures refused { OnErr result (bay_loans self.new ≡ bay_loans self.old)
             × (IsErrOf result BayError.Failed ↔ WontLend self.old.calls.metas self.old name.now 0 (λ size. size)) }
         ensures same { KeepsSizes (sizes_of self.old) (sizes_of self.new) × SameReads (reads_of self.old) (reads_of self.new)
-            × (self.new.calls ≡ record self.old.calls { metas = one_begun self.old.calls.metas }) }
+            × (self.new.calls ≡ record self.old.calls { metas = one_begun self.old.calls.metas })
+            × SameCalls self.old self.new }
         ensures cause { HasBayCause (bay_faults self.old) (bay_faults self.new) result
             × (IsErrOf result BayError.Failed → bay_faults self.new ≡ one_more (bay_faults self.old)) }
     {
@@ -282,7 +290,8 @@ impl Bay for MemBay {
         ensures refused { OnErr result (bay_loans self.new ≡ bay_loans self.old)
             × (IsErrOf result BayError.Failed ↔ WontLend self.old.calls.parts self.old name.now first (λ _. sectors)) }
         ensures same { KeepsSizes (sizes_of self.old) (sizes_of self.new) × SameReads (reads_of self.old) (reads_of self.new)
-            × (self.new.calls ≡ record self.old.calls { parts = one_begun self.old.calls.parts }) }
+            × (self.new.calls ≡ record self.old.calls { parts = one_begun self.old.calls.parts })
+            × SameCalls self.old self.new }
         ensures cause { HasBayCause (bay_faults self.old) (bay_faults self.new) result
             × (IsErrOf result BayError.Failed → bay_faults self.new ≡ one_more (bay_faults self.old)) }
     {
@@ -295,7 +304,15 @@ impl Bay for MemBay {
         }
     }
 
-    fn put_back(&mut self, disk: MemDisk) {
+    fn put_back(&mut self, disk: MemDisk)
+        requires { (index : ℕ) × IsOut place_of sectors_of (bay_loans self.old) (place_of disk) (sectors_of disk) index }
+        ensures loans { EndsLoan place_of sectors_of disk (bay_loans self.old) (bay_loans self.new) }
+        ensures content { NowReadsAs (reads_of self.new) disk.device disk.first (sectors_of disk) (history_of disk).now }
+        ensures others { SameReadsBut disk.device disk.first (sectors_of disk) (reads_of self.old) (reads_of self.new) }
+        ensures sizes { KeepsSizes (sizes_of self.old) (sizes_of self.new) }
+        ensures same { bay_faults self.new ≡ bay_faults self.old }
+        ensures calls { ForgetsCalls disk.device self.old self.new }
+    {
         self.end_loan(&disk);
         self.take_in(disk);
     }
