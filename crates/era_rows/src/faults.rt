@@ -129,6 +129,8 @@ fn an_origin_that_is_lent_already_is_a_fault(rt: HostRuntime) -> Result<(), Fail
     let served: &[u8] = b"open 1 64\nend 1 0\n";
     for (table, expected, status) in [(TABLE, fault, 4), ("0 511 era meta origin 8", served, 0)] {
         let mut bay = bay(alloc, 512, &[])?;
+        let size = bay.size("origin")?;
+        assert!(rt; size == 512);
         let _last = bay.open_part("origin", 511, 1)?;
         let ran = run(&rt, alloc, &["serve", table], b"", bay)?;
         assert_eq!(rt; ran.text.as_slice(), expected);
