@@ -1,7 +1,7 @@
 -- The states of a disk in memory after rows were written, marked or synced.
 use Rattle.std.proofs.Common.{◌≡◌, ℕ, ◌+◌, ◌-◌, ◌*◌, ◌/◌, ◌<◌, ◌≤◌, Bool, true, false, List, length, replicate, slice_index_or, arith, refl, ◌∙◌, ap}
 use borrow.Rule.Slice.PartMut.{put_mid}
-use Rattle.std.specs.Prelude.{Result, Ok, Err, OnOk}
+use Rattle.std.specs.Prelude.{Result, Ok, Err, OnOk, OnErr}
 use Rattle.era_base.specs.Bytes.{splice}
 use Rattle.era_base.specs.CrashModel.{State, SameBut, IsClean}
 use Rattle.era_disks.specs.Rows.{bytes_of, length-bytes_of}
@@ -57,6 +57,10 @@ written-seen rows after ys bytes first count e size is =
 pub on_ok_then : {T E : Type 0} (r : Result T E) {P Q : Type 0} → OnOk r P → (P → Q) → OnOk r Q
 on_ok_then (Ok x) p f = f p
 on_ok_then (Err e) p f = p
+
+pub on_err_then : {T E : Type 0} (r : Result T E) {P Q : Type 0} → OnErr r P → (P → Q) → OnErr r Q
+on_err_then (Ok x) p f = p
+on_err_then (Err e) p f = f p
 
 pub state-same : (seen seen' : List ℕ) (pending pending' : List Bool) → seen ≡ seen' → pending ≡ pending'
     → ◌≡◌ {A = State} (record { seen = seen; pending = pending }) (record { seen = seen'; pending = pending' })

@@ -2,8 +2,9 @@ use Rattle.std.proofs.Common.{◌≡◌, ◌*◌, ℕ, List, Option, Some, arith
 use Rattle.std.proofs.lemmas.List.{length-replicate}
 use Rattle.era_base.specs.Bytes.{part}
 use Rattle.era_base.specs.CrashModel.{State}
-use Rattle.era_disks.specs.Devices.{device_of, device_reads, device_size}
+use Rattle.era_disks.specs.Devices.{device_of, device_reads, device_size, device_calls}
 use Rattle.era_disks.specs.declared.device.Device.{Device}
+use Rattle.era_disks.specs.declared.disk_calls.DiskCalls.{DiskCalls}
 use Rattle.era_disks.proofs.BayReads.{row-told}
 use Rattle.era_disks.proofs.FirstDevice.{added-named, added-other, length-pushed, no-size}
 use Rattle.era_disks.proofs.mem_bay.MemBay.add.Goals as goal
@@ -40,4 +41,10 @@ returns-clause-others c = λ other apart.
     let is : device_of c.push.new.self.items other ≡ device_of c.args.self.now.devices.items other =
     ap same c.in_ok-push.ensures.items
     ∙ added-other c.args.self.now.devices.items _ other (λ e. apart (e ∙ c.in_ok-from_text.ensures)) in
-    (ap device_size is, λ sector. ap (λ (d : Option Device). device_reads d sector) is)
+    (ap device_size is, (λ sector. ap (λ (d : Option Device). device_reads d sector) is), ap device_calls is)
+
+pub returns-clause-calls : goal.returns-clause-calls
+returns-clause-calls c =
+    ap (λ (ds : List Device). device_calls (device_of ds c.args.name.now)) c.in_ok-push.ensures.items
+    ∙ ap device_calls (added-named c.args.self.now.devices.items _ c.args.name.now (no-size _ c.requires) c.in_ok-from_text.ensures)
+    ∙ ap (λ (cs : DiskCalls). Some cs) c.new-2.ensures

@@ -1,9 +1,10 @@
-use Rattle.std.proofs.Common.{◌≡◌, ◌+◌, ◌≤◌, ℕ, length, Some, arith, ◌∙◌, ap}
+use Rattle.std.proofs.Common.{◌≡◌, ◌+◌, ◌≤◌, ℕ, length, Some, arith, refl, sym, ◌∙◌, ap}
+use Rattle.std.proofs.lemmas.Option.{same_Some}
 use borrow.Rule.Slice.PartMut.{put_mid}
-use Rattle.era_disks.specs.Devices.{device_length, device_size}
+use Rattle.era_disks.specs.Devices.{device_length, device_size, device_calls}
 use Rattle.era_disks.specs.declared.device.Device.{Device}
 use Rattle.era_disks.proofs.BayReads.{taken-content, taken-others, taken-length}
-use Rattle.era_disks.proofs.FirstDevice.{found-along, found-device, same-told}
+use Rattle.era_disks.proofs.FirstDevice.{found-along, found-device, same-told, set-named}
 use Rattle.era_disks.proofs.mem_bay.MemBay.take_in.Goals as goal
 
 pub invariant_of-self : goal.invariant_of-self
@@ -68,3 +69,19 @@ returns-in-Some-clause-sizes c =
     let fits : c.args.disk.first + length new ≤ length found.device.state.rows.items = omega (arith, c.requires, ap device_length found.found) in
     λ other. same-told device_size devices name c.in-Some.index found now named other
     (λ e. ap (λ (n : ℕ). Some n) (taken-length found.device now c.args.disk.first new rows fits))
+
+pub returns-in-Some-clause-calls : goal.returns-in-Some-clause-calls
+returns-in-Some-clause-calls c =
+    let devices = c.args.self.now.devices.items in
+    let name = c.args.disk.device in
+    let found = found-along c.as_slice.result.now devices c.as_str.result.now name c.in-Some.index c.as_slice.ensures.value c.as_str.ensures c.in-Some.ensures.some in
+    let here = found-device devices name c.in-Some.index found c.index_mut.result.now c.index_mut.ensures.value in
+    let now = c.take_back.new.self in
+    let named : now.name ≡ name = c.take_back.ensures.name ∙ ap (λ (d : Device). d.name) here ∙ found.named in
+    record {
+      device = λ calls told.
+          sym (same_Some now.calls calls (sym (ap device_calls (set-named devices name c.in-Some.index found now named)) ∙ told))
+          ∙ c.take_back.ensures.calls;
+      others = λ other apart. same-told device_calls devices name c.in-Some.index found now named other (λ e. absurd (apart e));
+      bay = refl;
+    }
