@@ -6,7 +6,7 @@ use Rattle.era_top.specs.declared.refusal.Refusal.TheVariants.{NoCommand, NoRoom
 use Rattle.era_top.specs.declared.status.Status.{Status}
 use Rattle.era_top.specs.Around.{DiskFacts, BayAround, StreamsAround}
 use Rattle.era_top.specs.Needs.{AnswersNeed, IsNumberRefusal, TellsNeed}
-use Rattle.era_top.specs.Reports.{Report, Refuses, Needs, Serves, Reports, IsReported, IsCauseOf, IsNoGeometry, LeavesBay}
+use Rattle.era_top.specs.Reports.{Report, Refuses, Needs, Serves, Reports, IsReported, IsCauseOf, IsNoGeometry, LeavesBay, LeavesSource}
 use Rattle.era_top.specs.Words.{GiveNumbers, IsNeed}
 
 -- numbers that are none are the words'
@@ -20,7 +20,7 @@ number-cause D words bay sectors size (BayFault count) need faults right = absur
 number-cause D words bay sectors size (TooSmall have needed) need faults right = absurd right
 
 need-right : (D : Type 0) (words : List (List ℕ)) (contents : List ℕ) (disks : DiskFacts D) (bay : BayAround D) (streams : StreamsAround) (sectors size : ℕ) (report : Report) (ended : Status)
-    → IsNeed words sectors size → LeavesBay bay → bay.faults' ≡ bay.faults → streams.left' ≡ streams.left → AnswersNeed sectors size report ended
+    → IsNeed words sectors size → LeavesBay bay → bay.faults' ≡ bay.faults → LeavesSource streams → AnswersNeed sectors size report ended
     → IsReported words contents disks bay streams report ended
 need-right D words contents disks bay streams sectors size (Refuses refusal) ended need left faults same right =
     (right.0, number-cause D words bay sectors size refusal need faults right.1, left, same)
@@ -42,7 +42,7 @@ need-right D words contents disks bay streams sectors size (Serves session) ende
 
 -- what a need command tells is its report
 pub need-reports : (D : Type 0) (words : List (List ℕ)) (contents : List ℕ) (disks : DiskFacts D) (bay : BayAround D) (streams : StreamsAround) (sectors size : ℕ) (result : Status)
-    → IsNeed words sectors size → LeavesBay bay → bay.faults' ≡ bay.faults → streams.left' ≡ streams.left → TellsNeed sectors size streams.given streams.given' result
+    → IsNeed words sectors size → LeavesBay bay → bay.faults' ≡ bay.faults → LeavesSource streams → TellsNeed sectors size streams.given streams.given' result
     → Reports words contents disks bay streams result
 need-reports D words contents disks bay streams sectors size result need left faults same tells = record {
   report = tells.report;

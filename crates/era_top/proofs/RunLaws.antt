@@ -1,11 +1,13 @@
 -- What the journal of a run tells: its replies are those of the outcomes, and its commands are a run.
-use Rattle.std.proofs.Common.{◌≡◌, ◌≢◌, ◌⊎◌, ℕ, ◌+◌, ◌/◌, true, false, ◌||◌, List, [], ◌∷◌, ◌++◌, length, Option, Some, None, refl, ap, sym, ◌∙◌, subst, ap₂, inl, inr}
+use Rattle.std.proofs.Common.{◌≡◌, ◌≢◌, ◌⊎◌, ℕ, ◌+◌, ◌/◌, Bool, true, false, ◌||◌, List, [], ◌∷◌, ◌++◌, length, Option, Some, None, refl, ap, sym, ◌∙◌, subst, ap₂, inl, inr}
 use Rattle.std.specs.List.{list_any}
 use Rattle.era_base.specs.Geometry.{place_at}
 use Rattle.era_base.specs.declared.geometry.Geometry.{Geometry}
 use Rattle.era_model.specs.declared.event.Event.{Event}
 use Rattle.era_model.specs.declared.event.Event.TheVariants.{Tried, Mark, Go, Done as DoneEvent, Cut as CutEvent}
 use Rattle.era_model.specs.declared.history.Happening.{Happening}
+use Rattle.era_model.specs.declared.reply.Answer.TheVariants.{Fault}
+use Rattle.era_model.specs.declared.reply.Device.TheVariants.{Data}
 use Rattle.era_model.specs.CommandEvents.{AreCheckpointEvents, AreWriteEvents, IsOutcome, IsTriedWrite}
 use Rattle.era_model.specs.Commands.{events_of, answer_of}
 use Rattle.era_model.specs.History.{at_opening}
@@ -20,8 +22,8 @@ use Rattle.era_plan.specs.ModelRounds.{model_task}
 use Rattle.era_top.specs.declared.outcome.Outcome.{Outcome}
 use Rattle.era_top.specs.declared.outcome.Outcome.TheVariants.{OutOfRange, Done, Cut, Moved, LastEra, Listed, NoMemory}
 use Rattle.era_top.specs.Outcomes.{EventSubject, era_after, event_count, ended_events, is_issued, lacks_memory, outcome_events, outcome_line, outcomes_text}
-use Rattle.era_top.specs.Runs.{lane_zero, commands_from, place_of_write, some_lack, subject_of, subject_of_write, FitsList, FitsPlace, FitsTask, AreAnswered}
-use Rattle.era_top.specs.Sessions.{says_memory, some_says_memory}
+use Rattle.era_top.specs.Runs.{lane_zero, command_of, commands_from, place_of_write, some_lack, subject_of, subject_of_write, FitsList, FitsPlace, FitsTask, AreAnswered}
+use Rattle.era_top.specs.Answered.{says_memory, some_says_memory, EndInFault}
 use Rattle.era_top.proofs.Journals.{at_opening-known}
 
 -- a reply doesn't depend on what the events name
@@ -68,6 +70,25 @@ answered-lack g h number era start (task ∷ tasks) (outcome ∷ outcomes) next 
     ap₂ (λ first rest. first || rest)
     (ap (λ events. says_memory (answer_of events)) answered.1 ∙ answer-lacks (subject_of g number era task) start outcome)
     (answered-lack g h (number + 1) (era_after era outcome) (start + event_count outcome) tasks outcomes next answered.2)
+
+answer-cut : (subject : EventSubject) (start : ℕ) (marks : Bool) (count : ℕ) → answer_of (outcome_events subject start (Cut marks count)) ≡ Fault Data count
+answer-cut subject start true count = refl
+answer-cut subject start false count = refl
+
+-- where the last outcome is a cut, the last command was answered with its fault
+pub answered-fault : (g : Geometry) (h : List Happening) (number era start : ℕ) (tasks : List Task) (before : List Outcome) (marks : Bool) (count next : ℕ) → AreAnswered g h number era start tasks (before ++ Cut marks count ∷ []) next → EndInFault h (commands_from number tasks) count
+answered-fault g h number era start [] [] marks count next answered = absurd answered
+answered-fault g h number era start [] (outcome ∷ before) marks count next answered = absurd answered
+answered-fault g h number era start (task ∷ []) [] marks count next answered = record {
+  before = [];
+  last = command_of number task;
+  among = refl;
+  answer = ap answer_of answered.1 ∙ answer-cut (subject_of g number era task) start marks count;
+}
+answered-fault g h number era start (task ∷ next_task ∷ tasks) [] marks count next answered = absurd answered.2
+answered-fault g h number era start (task ∷ tasks) (outcome ∷ before) marks count next answered =
+    let rest = answered-fault g h (number + 1) (era_after era outcome) (start + event_count outcome) tasks before marks count next answered.2 in
+    record { before = command_of number task ∷ rest.before; last = rest.last; among = ap (λ commands. command_of number task ∷ commands) rest.among; answer = rest.answer }
 
 issued-without_mark : (h : List Happening) (subject : EventSubject) (start : ℕ) (ended : Event) → IsOutcome subject.id ended → IsTriedWrite h subject.id subject.block subject.first subject.bytes (without_places (ended_events false subject start ended))
 issued-without_mark h subject start ended ends = record {

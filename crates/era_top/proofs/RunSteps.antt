@@ -128,6 +128,7 @@ running-cut g contents all tasks outcomes marks marks' tells faults faults' faul
         kept = λ none. absurd (some_cut-last outcomes first told run.no_cut none);
         quiet = λ none. absurd (some_cut-last outcomes first told run.no_cut none);
         stopped = λ _ empty. some-flight n issue made.0 told made.1.quiet empty;
+        last = λ _. record { before = outcomes; marks = first; last = ap (λ k. outcomes ++ Cut first k ∷ []) fault.told_now };
         reads = λ tell is block within_origin.
             let same = made.1.same block ∙ run.reads tell is block within_origin in
             record {

@@ -8,10 +8,10 @@ use Rattle.era_base.specs.Bytes.{part}
 use Rattle.era_base.specs.Disk.{Place}
 use Rattle.era_base.specs.Faults.{Rose}
 use Rattle.era_top.specs.declared.status.Status.{Status}
-use Rattle.era_top.specs.declared.status.Status.TheVariants.{Fault, Source, Sink}
+use Rattle.era_top.specs.declared.status.Status.TheVariants.{Fault, Source}
 use Rattle.era_top.specs.Around.{DiskFacts, BayAround, StreamsAround, SomeCountRose, AllReturned}
 use Rattle.era_top.specs.Openings.{IsOpened, HasServed}
-use Rattle.era_top.specs.Sessions.{HasRiseFor}
+use Rattle.era_top.specs.Rises.{HasRiseFor}
 use Rattle.era_top.specs.Reports.{Reports, Serves, EndsAsJournal}
 use Rattle.era_top.proofs.LastLoan.{slice_get-last, slice_get-from_last}
 use Rattle.era_top.proofs.SectorLists.{seen-is}
@@ -129,11 +129,6 @@ module _ (D : Type 0) (words : List (List ℕ)) (disks : DiskFacts D) (bay : Bay
   pub served-source : (contents : List ℕ) → HasServed geometry contents disks (last_part bay between) streams bay.loans lent result → result ≡ Source
       → Rose streams.source_faults streams.source_faults'
   served-source contents served is = rise-for contents Source served is
-
-  -- the sink failed
-  pub served-sink : (contents : List ℕ) → HasServed geometry contents disks (last_part bay between) streams bay.loans lent result → result ≡ Sink
-      → Rose streams.sink_faults streams.sink_faults'
-  served-sink contents served is = rise-for contents Sink served is
 
   -- the one disk that was lent was put back
   pub served-returned : (contents : List ℕ) → HasServed geometry contents disks (last_part bay between) streams bay.loans lent result → AllReturned bay

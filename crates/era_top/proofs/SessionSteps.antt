@@ -16,17 +16,18 @@ use Rattle.era_plan.specs.declared.round.PlanError.{PlanError}
 use Rattle.era_plan.specs.declared.task.Task.{Task}
 use Rattle.era_plan.specs.Grammar.{lines_of}
 use Rattle.era_plan.specs.declared.round.PlanError.TheVariants.{Line as LineError, Source as SourceError, Memory as MemoryError}
-use Rattle.era_plan.specs.Rounds.{SpellRound, Refuses, FailsBehind, HasErrorCause}
+use Rattle.era_plan.specs.Rounds.{Refuses, FailsBehind, HasErrorCause}
 use Rattle.era_top.specs.declared.outcome.Outcome.{Outcome}
 use Rattle.era_top.specs.declared.status.Status.{Status}
 use Rattle.era_top.specs.declared.status.Status.TheVariants.{Done, Fault, Memory, Sink}
 use Rattle.era_top.specs.Outcomes.{era_after, event_count, outcomes_text, total_events}
 use Rattle.era_top.specs.Runs.{commands_from, AreAnswered, IsJournalOf, some_cut, some_lack}
-use Rattle.era_top.specs.Sessions.{Session, Around, IsSession, HasReadAll, HasDoneAll, HasRunNothing, EndsBy, some_says_memory, Prints, Goes, GoesOn, session_text, text_behind_open, stop_of, status_of, round_status}
+use Rattle.era_top.specs.Answered.{some_says_memory, EndInFault}
+use Rattle.era_top.specs.Sessions.{Session, Around, IsSession, IsReadWhole, HasReadAll, HasDoneAll, HasRunNothing, EndsBy, Prints, Goes, GoesOn, session_text, text_behind_open, stop_of, status_of, round_status}
 use Rattle.era_top.specs.Steps.{HaveRun}
 use Rattle.era_top.proofs.Gives.{gives_front-within}
 use Rattle.era_top.proofs.Journals.{at_opening-known}
-use Rattle.era_top.proofs.RunLaws.{answered-lack}
+use Rattle.era_top.proofs.RunLaws.{answered-fault, answered-lack}
 use Rattle.era_top.proofs.RunOrder.{journal-run, journal-replies, opening-legal}
 use Rattle.era_top.proofs.StreamSteps.{never-empty}
 
@@ -113,40 +114,42 @@ idle-session g contents around stop same = record {
 
 -- the first line was refused, and nothing was read
 pub goes-unopened : (g : Geometry) (contents : List ℕ) (around : Around) (given given' : Option (List ℕ)) → (around.tells ≡ true → around.disk' ≡ around.disk)
+    → around.disk_faults' ≡ around.disk_faults → around.left' ≡ around.left → around.source_faults' ≡ around.source_faults
     → ((before : List ℕ) → given ≡ Some before → GivesFront before (open_line g 1) given') → Goes g contents around given given' Sink
-goes-unopened g contents around given given' same front =
+goes-unopened g contents around given given' same kept left unread front =
     let session : Session = record { journal = Opened (session_opening g contents) ∷ []; commands = []; stop = ReadToEnd } in
     record {
       session = session;
       ended = Sink;
       right = idle-session g contents around ReadToEnd same;
-      cause = record { commands = refl; no_event = refl; same = same };
+      cause = (record { commands = refl; no_event = refl; same = same; kept = kept }, left, unread);
       printed = subst (λ text. Prints given given' text Sink Sink) (sym (session-text-is g contents session refl))
           (prints-first given given' (open_line g 1) (text_behind_open session) Sink front);
     }
 
 -- the stream gave no round, and the last lines say why
 pub goes-stop : (g : Geometry) (contents : List ℕ) (around : Around) (given given' : Option (List ℕ)) (error : PlanError) (result : Status) → (around.tells ≡ true → around.disk' ≡ around.disk)
+    → around.disk_faults' ≡ around.disk_faults
     → ((session : Session) → session.stop ≡ stop_of error → HasRunNothing around session → EndsBy g around session (status_of error))
     → Prints given given' (stop_line (stop_of error) ++ end_line 1 0) (status_of error) result → GoesOn g contents around given given' result
-goes-stop g contents around given given' error result same cause printed =
+goes-stop g contents around given given' error result same kept cause printed =
     let session : Session = record { journal = Opened (session_opening g contents) ∷ []; commands = []; stop = stop_of error } in
     record {
       session = session;
       ended = status_of error;
       right = idle-session g contents around (stop_of error) same;
-      cause = cause session refl (record { commands = refl; no_event = refl; same = same });
+      cause = cause session refl (record { commands = refl; no_event = refl; same = same; kept = kept });
       printed = printed;
     }
 
 -- how a session ends whose commands were run
 round-cause : (g : Geometry) (around : Around) (session : Session) (outcomes : List Outcome) → HasReadAll around session
-    → (some_cut outcomes ≡ true → Rose around.disk_faults around.disk_faults')
+    → (some_cut outcomes ≡ true → EndInFault session.journal session.commands around.disk_faults' × Rose around.disk_faults around.disk_faults')
     → (some_cut outcomes ≡ false → HasDoneAll g around session)
     → some_says_memory session.journal session.commands ≡ some_lack outcomes
     → EndsBy g around session (round_status outcomes)
 round-cause g around session outcomes read cut done lack = elim (some_cut outcomes) as (λ flag. some_cut outcomes ≡ flag → EndsBy g around session (if flag then Fault else if some_lack outcomes then Memory else Done)) [
-  | true ↦ λ is. (read, cut is)
+  | true ↦ λ is. (read, (cut is).0, (cut is).1)
   | false ↦ λ is. uncut (some_lack outcomes) lack (done is)
 ] refl
   where
@@ -157,17 +160,17 @@ round-cause g around session outcomes read cut done lack = elim (some_cut outcom
 -- the commands of the stream were run, and the replies say how
 pub goes-round : (g : Geometry) (contents : List ℕ) (around : Around) (given given' : Option (List ℕ)) (tasks : List Task) (outcomes : List Outcome) (era : ℕ) (h : List Happening) (result : Status)
     → HaveRun g contents tasks outcomes around.tells era around.disk_faults around.disk_faults' around.disk around.disk' h
-    → ((text : List ℕ) → around.left ≡ Some text → SpellRound (lines_of text) tasks)
+    → IsReadWhole around.left around.left' around.source_faults around.source_faults' tasks
     → Prints given given' (outcomes_text 1 0 outcomes ++ (stop_line ReadToEnd ++ end_line era (total_events outcomes))) (round_status outcomes) result
     → GoesOn g contents around given given' result
-goes-round g contents around given given' tasks outcomes era h result run spelled printed =
+goes-round g contents around given given' tasks outcomes era h result run source printed =
     let front = take (length outcomes) tasks in
     let session : Session = record { journal = h; commands = commands_from 0 front; stop = ReadToEnd } in
     let total : next_place h ≡ total_events outcomes = answered-total g h 0 1 0 front outcomes (next_place h) run.journal.answered ∙ (omega arith) in
     let read : HasReadAll around session = record {
       tasks = tasks;
       answered = length outcomes;
-      spelled = spelled;
+      source = source;
       commands = refl;
       stop = refl;
       whole = λ empty. all-answered empty;
@@ -183,7 +186,7 @@ goes-round g contents around given given' tasks outcomes era h result run spelle
         counts = run.counts;
         reads = run.reads;
       };
-      cause = round-cause g around session outcomes read run.rose
+      cause = round-cause g around session outcomes read (λ cut. (ends-in-fault cut, run.rose cut))
           (λ none. record { read = read; quiet = run.quiet none; clean = λ told. run.clean told none; kept = run.kept none })
           (answered-lack g h 0 1 0 front outcomes (next_place h) run.journal.answered);
       printed = rw (journal-replies g contents front outcomes h run.journal, total, ← run.present) printed;
@@ -194,11 +197,16 @@ goes-round g contents around given given' tasks outcomes era h result run spelle
       | true ↦ λ cut. absurd (run.stopped cut empty)
       | false ↦ λ none. take_all (length outcomes) tasks (let e = run.whole none in omega arith)
     ] refl
+    ends-in-fault : some_cut outcomes ≡ true → EndInFault h (commands_from 0 (take (length outcomes) tasks)) around.disk_faults'
+    ends-in-fault cut =
+        let is = run.last cut in
+        answered-fault g h 0 1 0 (take (length outcomes) tasks) is.before is.marks around.disk_faults' (next_place h)
+        (subst (λ went. AreAnswered g h 0 1 0 (take (length outcomes) tasks) went (next_place h)) is.last run.journal.answered)
 
 -- why a stream gave no round is why its session ended
 pub error-cause : (g : Geometry) (around : Around) (error : PlanError) → HasErrorCause around.source_faults around.source_faults' error → ((text : List ℕ) → around.left ≡ Some text → Refuses text error)
     → ((text : List ℕ) → around.left ≡ Some text → FailsBehind text around.left' error)
     → (session : Session) → session.stop ≡ stop_of error → HasRunNothing around session → EndsBy g around session (status_of error)
-error-cause g around (LineError error) cause refused front session stop idle = (idle, (error.line, stop, (λ text is. (refused text is).1)))
+error-cause g around (LineError error) cause refused front session stop idle = (idle, (error.line, stop, (λ text is. (refused text is).1)), cause)
 error-cause g around (SourceError count) cause refused front session stop idle = (idle, stop ∙ ap (λ n. SourceFault n) cause.0, cause.1, front)
-error-cause g around MemoryError cause refused front session stop idle = inl (idle, stop)
+error-cause g around MemoryError cause refused front session stop idle = inl (idle, stop, cause)

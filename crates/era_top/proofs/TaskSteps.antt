@@ -40,6 +40,7 @@ running-end g contents all tasks outcomes marks tells faults faults' disk disk' 
       kept = λ _. run.kept;
       quiet = λ _. run.between.quiet;
       stopped = λ cut. absurd (let none = run.no_cut in cc);
+      last = λ cut. absurd (let none = run.no_cut in cc);
       reads = λ told is block within. record {
         size = ap length (sym (run.reads told is block within));
         same = λ offset _. ap (λ bytes. get_or bytes offset 0) (sym (run.reads told is block within));

@@ -2,7 +2,9 @@ pub mod Parts
 pub mod Outcomes
 pub mod Runs
 pub mod Steps
+pub mod Answered
 pub mod Sessions
+pub mod Rises
 pub mod Around
 pub mod Words
 pub mod Refusals

@@ -12,7 +12,8 @@ use Rattle.era_top.specs.declared.refusal.Refusal.TheVariants.{NoRoom, BayFault,
 use Rattle.era_top.specs.declared.status.Status.{Status}
 use Rattle.era_top.specs.Around.{DiskFacts, BayAround, StreamsAround}
 use Rattle.era_top.specs.Reports.{AsksFor, IsCauseOf, IsOrigin, LeavesBay, around_session}
-use Rattle.era_top.specs.Sessions.{Goes, HasRiseFor}
+use Rattle.era_top.specs.Rises.{HasRiseFor}
+use Rattle.era_top.specs.Sessions.{Goes}
 
 -- The origin of a table line was lent as it reads, and its loan is the last one.
 pub record IsLent {D : Type 0} (disks : DiskFacts D) (bay : BayAround D) (line : TableLine) (lent : D) : Type 0 where

@@ -46,6 +46,11 @@ pub record LeavesBay {D : Type 0} (bay : BayAround D) : Type 0 where
   pub loans : bay.loans' ≡ bay.loans
   pub reads : SameReads bay.reads bay.reads'
 
+-- Nothing was taken of the source, and its count of faults is as before.
+pub record LeavesSource (streams : StreamsAround) : Type 0 where
+  pub left : streams.left' ≡ streams.left
+  pub faults : streams.source_faults' ≡ streams.source_faults
+
 -- The exact cause of a refusal: the words are no command; memory was refused, which may be at any time; their numbers are no geometry; the bay failed, and the count is its own; the origin is smaller than the table line says.
 abbrev pub IsCauseOf : {D : Type 0} → List (List ℕ) → BayAround D → Refusal → Type 0
 IsCauseOf words bay NoCommand = IsNoCommand words × (bay.faults' ≡ bay.faults)
@@ -114,9 +119,9 @@ pub record IsNeeded {D : Type 0} (words : List (List ℕ)) (bay : BayAround D) (
 -- A report is right, and the call ends with this status: a refusal came by its exact cause, and the bay and the source are as before; or the need is told, and they are too; or a session was served.
 abbrev pub IsReported : {D : Type 0} → List (List ℕ) → List ℕ → DiskFacts D → BayAround D → StreamsAround → Report → Status → Type 0
 IsReported words contents disks bay streams (Refuses refusal) ended =
-    (ended ≡ refusal_status refusal) × IsCauseOf words bay refusal × LeavesBay bay × (streams.left' ≡ streams.left)
+    (ended ≡ refusal_status refusal) × IsCauseOf words bay refusal × LeavesBay bay × LeavesSource streams
 IsReported words contents disks bay streams (Needs blocks) ended =
-    (ended ≡ Done) × IsNeeded words bay blocks × (streams.left' ≡ streams.left)
+    (ended ≡ Done) × IsNeeded words bay blocks × LeavesSource streams
 IsReported words contents disks bay streams (Serves session) ended = IsServed words contents disks bay streams session ended
 
 -- A call went so, where the origin had these contents: its report is right, and its text was given.

@@ -1,14 +1,11 @@
 -- Sessions: what one tells, how it may end, and what a sink has of its text.
 use Rattle.std.specs.Prelude.{◌≡◌, ◌⊎◌, ℕ, Bool, true, false, List, [], ◌∷◌, ◌++◌, take, codes, Option, Some, None, if◌then◌else◌}
-use Rattle.std.specs.List.{list_any}
 use Rattle.era_base.specs.declared.geometry.Geometry.{Geometry}
 use Rattle.era_base.specs.CrashModel.{State, IsClean}
 use Rattle.era_base.specs.Faults.{Rose}
 use Rattle.era_base.specs.Streams.{GivesFront}
 use Rattle.era_model.specs.declared.history.Happening.{Happening}
-use Rattle.era_model.specs.declared.reply.Answer.{Answer}
-use Rattle.era_model.specs.declared.reply.Answer.TheVariants.{Memory as MemoryAnswer}
-use Rattle.era_model.specs.Commands.{Command, events_of, answer_of}
+use Rattle.era_model.specs.Commands.{Command}
 use Rattle.era_model.specs.Counts.{CountsAreWithin}
 use Rattle.era_model.specs.History.{at_opening, era_of, in_flight, next_place}
 use Rattle.era_model.specs.Journal.{session_opening}
@@ -24,6 +21,7 @@ use Rattle.era_plan.specs.Rounds.{SpellRound, IsFirstRefused, IsReadInFront}
 use Rattle.era_top.specs.declared.status.Status.{Status}
 use Rattle.era_top.specs.declared.status.Status.TheVariants.{Done, Line, Fault, Memory, Source, Sink}
 use Rattle.era_top.specs.declared.outcome.Outcome.{Outcome}
+use Rattle.era_top.specs.Answered.{some_says_memory, EndInFault}
 use Rattle.era_top.specs.Runs.{commands_from, some_cut, some_lack, ReadsAsJournal}
 
 -- What a session tells: its journal, the commands that it answered, and why it stopped reading.
@@ -57,11 +55,17 @@ pub record IsSession (g : Geometry) (contents : List ℕ) (around : Around) (ses
   pub counts : CountsAreWithin (λ _. around.disk_faults) (λ _. around.disk_faults') session.journal
   pub reads : around.tells ≡ true → contents ≡ around.disk.seen → ReadsAsJournal g session.journal around.disk'.seen
 
+-- A source was read to its end: the lines of its text spell these tasks, nothing of it is left, and its count of faults is as before.
+pub record IsReadWhole (left left' : Option (List ℕ)) (faults faults' : ℕ) (tasks : List Task) : Type 0 where
+  pub spelled : (text : List ℕ) → left ≡ Some text → SpellRound (lines_of text) tasks
+  pub at_end : (text : List ℕ) → left ≡ Some text → left' ≡ Some []
+  pub kept : faults' ≡ faults
+
 -- The stream was read to its end: its lines spell tasks, and those that were answered are the first of them.
 pub record HasReadAll (around : Around) (session : Session) : Type 0 where
   pub tasks : List Task
   pub answered : ℕ
-  pub spelled : (text : List ℕ) → around.left ≡ Some text → SpellRound (lines_of text) tasks
+  pub source : IsReadWhole around.left around.left' around.source_faults around.source_faults' tasks
   pub commands : session.commands ≡ commands_from 0 (take answered tasks)
   pub stop : session.stop ≡ ReadToEnd
   pub whole : in_flight session.journal ≡ [] → take answered tasks ≡ tasks
@@ -73,37 +77,32 @@ pub record HasDoneAll (g : Geometry) (around : Around) (session : Session) : Typ
   pub clean : around.tells ≡ true → (block : ℕ) → IsWrittenSince g session.commands 1 block → IsClean around.disk'
   pub kept : around.disk_faults' ≡ around.disk_faults
 
--- Whether an answer says that memory was refused.
-abbrev pub says_memory : Answer → Bool
-says_memory MemoryAnswer = true
-says_memory answer = false
-
--- Whether one of the commands was answered that memory was refused.
-abbrev pub some_says_memory : List Happening → List Command → Bool
-some_says_memory h commands = list_any (λ command. says_memory (answer_of (events_of h command.id))) commands
-
--- No command was run, and the disk is as it was.
+-- No command was run, and the disk and its count of faults are as they were.
 pub record HasRunNothing (around : Around) (session : Session) : Type 0 where
   pub commands : session.commands ≡ []
   pub no_event : next_place session.journal ≡ 0
   pub same : around.tells ≡ true → around.disk' ≡ around.disk
+  pub kept : around.disk_faults' ≡ around.disk_faults
 
--- A session may end so, with this cause: every command answered and on the disk, each list with its blocks; the origin failed; a line was refused; the source failed in front of the end of any refused line; memory was refused for the round, or for a list; the sink failed before anything was read.
+-- A session may end so, with this cause: every command answered and on the disk, each list with its blocks; the origin failed at the last command that was answered, whose reply tells the count; a line was refused; the source failed in front of the end of any refused line; memory was refused for the round, or for a list; the sink failed before anything was read.
 abbrev pub EndsBy : Geometry → Around → Session → Status → Type 0
 EndsBy g around session Done =
     HasDoneAll g around session × (some_says_memory session.journal session.commands ≡ false)
-EndsBy g around session Fault = HasReadAll around session × Rose around.disk_faults around.disk_faults'
+EndsBy g around session Fault =
+    HasReadAll around session × EndInFault session.journal session.commands around.disk_faults' × Rose around.disk_faults around.disk_faults'
 EndsBy g around session Line =
     HasRunNothing around session
     × ((line : ℕ) × (session.stop ≡ RefusedLine line (codes "NotYet"))
     × ((text : List ℕ) → around.left ≡ Some text → IsFirstRefused (lines_of text) line))
+    × (around.source_faults' ≡ around.source_faults)
 EndsBy g around session Source =
     HasRunNothing around session × (session.stop ≡ SourceFault around.source_faults') × Rose around.source_faults around.source_faults'
     × ((text : List ℕ) → around.left ≡ Some text → IsReadInFront text around.left')
 EndsBy g around session Memory =
-    (HasRunNothing around session × (session.stop ≡ NoMemory))
+    (HasRunNothing around session × (session.stop ≡ NoMemory) × (around.source_faults' ≡ around.source_faults))
     ⊎ (HasDoneAll g around session × (some_says_memory session.journal session.commands ≡ true))
-EndsBy g around session Sink = HasRunNothing around session
+EndsBy g around session Sink =
+    HasRunNothing around session × (around.left' ≡ around.left) × (around.source_faults' ≡ around.source_faults)
 EndsBy g around session status = ⊥
 
 -- A text was given, and the run ends as it says; or the sink failed after a front of it.
@@ -119,13 +118,6 @@ pub record Goes (g : Geometry) (contents : List ℕ) (around : Around) (given gi
   pub right : IsSession g contents around session
   pub cause : EndsBy g around session ended
   pub printed : Prints given given' (session_text session) ended result
-
--- The counts that rose where a run ended so.
-abbrev pub HasRiseFor : Status → ℕ → ℕ → ℕ → ℕ → ℕ → ℕ → Type 0
-HasRiseFor Fault source source' sink sink' disk disk' = Rose disk disk'
-HasRiseFor Source source source' sink sink' disk disk' = Rose source source'
-HasRiseFor Sink source source' sink sink' disk disk' = Rose sink sink'
-HasRiseFor status source source' sink sink' disk disk' = Unit {0}
 
 -- The text of a session behind its first line.
 abbrev pub text_behind_open : Session → List ℕ

@@ -1,5 +1,5 @@
 -- What running commands does to the marks in memory and to the disk.
-use Rattle.std.specs.Prelude.{◌≡◌, ℕ, ◌+◌, ◌*◌, ◌/◌, ◌<◌, ◌≤◌, not, Bool, true, false, List, [], length, take, Some, None}
+use Rattle.std.specs.Prelude.{◌≡◌, ℕ, ◌+◌, ◌*◌, ◌/◌, ◌<◌, ◌≤◌, not, Bool, true, false, List, [], ◌∷◌, ◌++◌, length, take, Some, None}
 use Rattle.era_base.specs.declared.geometry.Geometry.{Geometry}
 use Rattle.era_base.specs.Bytes.{splice}
 use Rattle.era_base.specs.CrashModel.{State, SameBut, IsClean}
@@ -87,6 +87,12 @@ TaskWent g (WriteTask write) tells marks marks' faults faults' disk disk' outcom
 TaskWent g (Ask request) tells marks marks' faults faults' disk disk' outcome =
     AnswersRequest marks marks' request outcome × (faults' ≡ faults) × (disk' ≡ disk)
 
+-- The last command was a write that was cut, and its outcome tells this count of faults.
+pub record EndInCut (outcomes : List Outcome) (count : ℕ) : Type 0 where
+  pub before : List Outcome
+  pub marks : Bool
+  pub last : outcomes ≡ before ++ Cut marks count ∷ []
+
 -- Commands were run in order, up to the first write that was cut, with the journal of those that were run, which is in this era: what the disk's count of faults did, what the origin reads as, and that nothing is pending after the last write in range.
 pub record HaveRun (g : Geometry) (contents : List ℕ) (tasks : List Task) (outcomes : List Outcome) (tells : Bool) (era faults faults' : ℕ) (disk disk' : State) (h : List Happening) : Type 0 where
   pub count : length outcomes ≤ length tasks
@@ -98,6 +104,7 @@ pub record HaveRun (g : Geometry) (contents : List ℕ) (tasks : List Task) (out
   pub kept : some_cut outcomes ≡ false → faults' ≡ faults
   pub quiet : some_cut outcomes ≡ false → in_flight h ≡ []
   pub stopped : some_cut outcomes ≡ true → in_flight h ≡ [] → ⊥
+  pub last : some_cut outcomes ≡ true → EndInCut outcomes faults'
   pub reads : tells ≡ true → contents ≡ disk.seen → ReadsAsJournal g h disk'.seen
   pub clean : tells ≡ true → some_cut outcomes ≡ false
       → (block : ℕ) → IsWrittenSince g (commands_from 0 (take (length outcomes) tasks)) 1 block → IsClean disk'

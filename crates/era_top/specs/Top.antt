@@ -1,5 +1,6 @@
 -- The number that the program ends with.
 use Rattle.std.specs.Prelude.{◌≡◌, ◌⊎◌, ℕ, ◌<◌, ◌≤◌, List, Option, Some}
+use Rattle.era_base.specs.Faults.{Rose}
 use Rattle.era_base.specs.Geometry.{IsBlockSize, blocks_of}
 use Rattle.era_line.specs.declared.table_line.TableLine.{TableLine}
 use Rattle.era_plan.specs.declared.task.Task.{Task}
@@ -25,6 +26,11 @@ number_of Sink = 8
 -- A number is one that the program ends with: 0, or 2 to 8.
 abbrev pub IsNumber : ℕ → Type 0
 IsNumber number = (number ≡ 0) ⊎ ((2 ≤ number) × (number ≤ 8))
+
+-- The number 8 comes exactly with a failure of the sink: its count of faults rose, and with any other number it is as before.
+pub record EndsBySink (before now number : ℕ) : Type 0 where
+  pub rose : number ≡ 8 → Rose before now
+  pub kept : (number ≡ 8 → ⊥) → now ≡ before
 
 -- A call went so, where the origin had these contents, and the program ends with the number of the status.
 pub record EndsAs {D : Type 0} (words : List (List ℕ)) (contents : List ℕ) (disks : DiskFacts D) (bay : BayAround D)

@@ -1,8 +1,8 @@
 //! The command that tells how many metadata blocks an origin needs.
 
 ghost use Rattle.std.specs.Prelude.{◌≡◌};
-ghost use Rattle.era_base.specs.Faults.{Rose};
 ghost use Rattle.era_top.specs.Needs.{TellsNeed};
+ghost use Rattle.era_top.specs.Rises.{HasSinkCause};
 
 use crate::part::Part::{Number, Text};
 use crate::refusal::Refusal;
@@ -15,7 +15,7 @@ use era_base::{Geometry, Sink};
 /// needs, or why these are no geometry.
 pub fn tell_need<K: Sink>(sink: &mut K, sectors: u64, block_sectors: u64) -> Status
     ensures told { TellsNeed sectors block_sectors (K.given sink.old) (K.given sink.new) result }
-    ensures sink { result ≡ Status.Sink → Rose (K.faults sink.old) (K.faults sink.new) }
+    ensures sink { HasSinkCause (K.faults sink.old) (K.faults sink.new) result }
     ensures fault { result ≡ Status.Fault → ⊥ }
     ensures source { result ≡ Status.Source → ⊥ }
 {

@@ -1,9 +1,10 @@
 //! Tells why a call serves nothing.
 
 ghost use Rattle.std.specs.Prelude.{◌≡◌};
-ghost use Rattle.era_base.specs.Faults.{HasCause, Rose};
+ghost use Rattle.era_base.specs.Faults.{HasCause};
 ghost use Rattle.era_base.specs.Streams.{GivesTo};
 ghost use Rattle.era_top.specs.Refusals.{geometry_text, refusal_text, refusal_status};
+ghost use Rattle.era_top.specs.Rises.{HasSinkCause};
 ghost use Rattle.era_top.specs.Sessions.{Prints};
 
 use crate::part::Part::{Number, Text};
@@ -74,7 +75,7 @@ fn give_refusal<K: Sink>(sink: &mut K, refusal: Refusal) -> Result<(), Failed>
 /// Tells a refusal, and the status that the call ends with.
 pub fn refuse<K: Sink>(sink: &mut K, refusal: Refusal) -> Status
     ensures printed { Prints (K.given sink.old) (K.given sink.new) (refusal_text refusal) (refusal_status refusal) result }
-    ensures sink { result ≡ Status.Sink → Rose (K.faults sink.old) (K.faults sink.new) }
+    ensures sink { HasSinkCause (K.faults sink.old) (K.faults sink.new) result }
 {
     let Ok(()) = give_refusal(sink, refusal) else {
         return Status::Sink;

@@ -1,14 +1,14 @@
 //! One round of a session: its commands are run, and their replies are given.
 
-ghost use Rattle.std.specs.Prelude.{◌≡◌, ◌+◌, ◌*◌, ◌<◌, ◌≤◌, ℕ, List, Option, Some, [], ◌++◌, length, true, vec_len, vec_capacity, IfOk};
+ghost use Rattle.std.specs.Prelude.{◌≡◌, ◌+◌, ◌*◌, ◌<◌, ◌≤◌, ℕ, List, Option, [], ◌++◌, length, true, vec_len, vec_capacity, IfOk};
 ghost use Rattle.era_model.specs.Marks.{no_marks};
-ghost use Rattle.era_plan.specs.Grammar.{lines_of};
-ghost use Rattle.era_plan.specs.Rounds.{SpellRound, IsWithinLimits};
+ghost use Rattle.era_plan.specs.Rounds.{IsWithinLimits};
 ghost use Rattle.era_base.specs.Faults.{Rose};
 ghost use Rattle.era_model.specs.Transcript.{ReadToEnd, stop_line, end_line};
 ghost use Rattle.era_top.specs.Outcomes.{outcomes_text, total_events};
 ghost use Rattle.era_top.specs.Runs.{some_cut, some_lack};
-ghost use Rattle.era_top.specs.Sessions.{GoesOn, Prints, round_status};
+ghost use Rattle.era_top.specs.Rises.{HasSinkCause};
+ghost use Rattle.era_top.specs.Sessions.{GoesOn, IsReadWhole, Prints, round_status};
 
 use crate::events::{count_events, is_cut, is_lack};
 use crate::outcome::Outcome;
@@ -77,7 +77,7 @@ fn give_round<K: Sink>(sink: &mut K, outcomes: &[Outcome], era: u32) -> Status
     ensures printed { Prints (K.given sink.old) (K.given sink.new)
         (outcomes_text 1 0 outcomes.now ++ (stop_line ReadToEnd ++ end_line era (total_events outcomes.now)))
         (round_status outcomes.now) result }
-    ensures rose { result ≡ Status.Sink → Rose (K.faults sink.old) (K.faults sink.new) }
+    ensures rose { HasSinkCause (K.faults sink.old) (K.faults sink.new) result }
     ensures cut { result ≡ Status.Fault → some_cut outcomes.now ≡ true }
     ensures ends { result ≡ Status.Source → ⊥ }
 {
@@ -109,7 +109,7 @@ pub fn serve_round<K: Sink, D: Disk>(
     requires limits { IsWithinLimits commands.now }
     requires disk { D.sectors disk.old ≡ geometry.now.sectors }
     ensures goes { (contents : List ℕ) (left left' : Option (List ℕ)) (faults faults' : ℕ)
-        → ((text : List ℕ) → left ≡ Some text → SpellRound (lines_of text) commands.now)
+        → IsReadWhole left left' faults faults' commands.now
         → GoesOn geometry.now contents
         (record {
           left = left;
@@ -124,7 +124,7 @@ pub fn serve_round<K: Sink, D: Disk>(
         })
         (K.given sink.old) (K.given sink.new) result }
     ensures fault { result ≡ Status.Fault → Rose (D.faults disk.old) (D.faults disk.new) }
-    ensures sink { result ≡ Status.Sink → Rose (K.faults sink.old) (K.faults sink.new) }
+    ensures sink { HasSinkCause (K.faults sink.old) (K.faults sink.new) result }
     ensures source { result ≡ Status.Source → ⊥ }
     ensures size { D.sectors disk.new ≡ D.sectors disk.old }
     ensures place { D.place disk.new ≡ D.place disk.old }

@@ -1,7 +1,8 @@
 //! One session over an opened origin: it reads the stream, runs its writes and gives their replies.
 
 ghost use Rattle.std.specs.Prelude.{◌≡◌, ◌+◌, ◌*◌, ◌<◌, ◌≤◌, ℕ, List};
-ghost use Rattle.era_top.specs.Sessions.{Goes, HasRiseFor};
+ghost use Rattle.era_top.specs.Rises.{HasRiseFor, HasSinkCause};
+ghost use Rattle.era_top.specs.Sessions.{Goes};
 
 use crate::round::serve_round;
 use crate::session_lines::{give_open, give_stop};
@@ -34,6 +35,7 @@ pub fn serve<S: Source, K: Sink, D: Disk>(
         (K.given sink.old) (K.given sink.new) result }
     ensures rose { HasRiseFor result (S.faults source.old) (S.faults source.new) (K.faults sink.old) (K.faults sink.new)
         (D.faults disk.old) (D.faults disk.new) }
+    ensures sink { HasSinkCause (K.faults sink.old) (K.faults sink.new) result }
     ensures size { D.sectors disk.new ≡ D.sectors disk.old }
     ensures place { D.place disk.new ≡ D.place disk.old }
 {

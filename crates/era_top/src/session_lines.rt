@@ -5,6 +5,7 @@ ghost use Rattle.era_base.specs.Faults.{HasCause, Rose};
 ghost use Rattle.era_base.specs.Streams.{GivesTo};
 ghost use Rattle.era_model.specs.Transcript.{open_line, stop_line, end_line};
 ghost use Rattle.era_top.specs.Parts.{parts_text};
+ghost use Rattle.era_top.specs.Rises.{HasSinkCause};
 ghost use Rattle.era_top.specs.Sessions.{Prints, stop_of, status_of};
 
 use crate::part::Part;
@@ -34,6 +35,7 @@ pub fn give_last<K: Sink>(sink: &mut K, parts: &[Part], ended: Status) -> Status
     ensures printed { Prints (K.given sink.old) (K.given sink.new) (parts_text parts.now) ended result }
     ensures rose { result ≡ Status.Sink → (ended ≡ Status.Sink → ⊥) → Rose (K.faults sink.old) (K.faults sink.new) }
     ensures ends { (result ≡ Status.Sink → ⊥) → result ≡ ended }
+    ensures kept { (result ≡ Status.Sink → ⊥) → K.faults sink.new ≡ K.faults sink.old }
 {
     let Ok(()) = give_parts(sink, parts) else {
         return Status::Sink;
@@ -44,7 +46,7 @@ pub fn give_last<K: Sink>(sink: &mut K, parts: &[Part], ended: Status) -> Status
 /// Gives the last lines of a session that ran nothing: why it stopped, and that it had no event.
 pub fn give_stop<K: Sink>(sink: &mut K, error: PlanError) -> Status
     ensures printed { Prints (K.given sink.old) (K.given sink.new) (stop_line (stop_of error) ++ end_line 1 0) (status_of error) result }
-    ensures rose { result ≡ Status.Sink → Rose (K.faults sink.old) (K.faults sink.new) }
+    ensures rose { HasSinkCause (K.faults sink.old) (K.faults sink.new) result }
     ensures ends { (result ≡ Status.Sink → ⊥) → result ≡ status_of error }
 {
     match error {

@@ -6,7 +6,8 @@ ghost use Rattle.era_base.specs.Faults.{Rose};
 ghost use Rattle.era_top.specs.Around.{SomeCountRose, AllReturned, IsFaultless};
 ghost use Rattle.era_top.specs.Openings.{Opens, HasServed};
 ghost use Rattle.era_top.specs.Reports.{Reports};
-ghost use Rattle.era_top.specs.Top.{EndsAs, IsNumber, IsServable};
+ghost use Rattle.era_top.specs.Rises.{HasSinkCause};
+ghost use Rattle.era_top.specs.Top.{EndsAs, EndsBySink, IsNumber, IsServable};
 ghost use Rattle.era_top.specs.Exactly.{EndsExactly};
 ghost use Rattle.era_top.specs.Words.{texts_of, IsNeed, IsNoNeed};
 ghost use Rattle.era_base.specs.declared.geometry.Geometry.{Geometry as geometry_numbers};
@@ -95,6 +96,7 @@ fn serve_lent<S: Source, K: Sink, B: Bay>(
         })
         before disk result }
     ensures sizes { KeepsSizes (B.sizes bay.old) (B.sizes bay.new) }
+    ensures sink { HasSinkCause (K.faults sink.old) (K.faults sink.new) result }
 {
     let status = serve(alloc, geometry, source, sink, &mut disk);
     bay.put_back(disk);
@@ -144,7 +146,7 @@ fn run_serve<S: Source, K: Sink, B: Bay>(
           faults' = B.faults bay.new;
         }) }
     ensures source { result ≡ Status.Source → Rose (S.faults source.old) (S.faults source.new) }
-    ensures sink { result ≡ Status.Sink → Rose (K.faults sink.old) (K.faults sink.new) }
+    ensures sink { HasSinkCause (K.faults sink.old) (K.faults sink.new) result }
     ensures returned { AllReturned
         (record {
           sizes = B.sizes bay.new;
@@ -204,7 +206,7 @@ pub fn run_words<S: Source, K: Sink, B: Bay>(
           faults' = B.faults bay.new;
         }) }
     ensures source { result ≡ Status.Source → Rose (S.faults source.old) (S.faults source.new) }
-    ensures sink { result ≡ Status.Sink → Rose (K.faults sink.old) (K.faults sink.new) }
+    ensures sink { HasSinkCause (K.faults sink.old) (K.faults sink.new) result }
     ensures returned { AllReturned
         (record {
           sizes = B.sizes bay.new;
@@ -269,7 +271,7 @@ pub fn era_top<R: Threads + Wait + Sync, S: Source, K: Sink, B: Bay, P: Pace + S
           faults' = B.faults bay.new;
         }) }
     ensures source { result ≡ 7 → Rose (S.faults source.old) (S.faults source.new) }
-    ensures sink { result ≡ 8 → Rose (K.faults sink.old) (K.faults sink.new) }
+    ensures sink { EndsBySink (K.faults sink.old) (K.faults sink.new) result }
     ensures returned { AllReturned
         (record {
           sizes = B.sizes bay.new;

@@ -1,15 +1,14 @@
 use Rattle.std.proofs.Common.{[], length, refl, ap, sym, subst, inl, arith}
 use Rattle.era_plan.specs.declared.round.PlanError.TheVariants.{Memory as MemoryError}
-use Rattle.era_plan.specs.Grammar.{lines_of}
-use Rattle.era_plan.specs.Rounds.{SpellRound}
+use Rattle.era_top.specs.Sessions.{IsReadWhole}
 use Rattle.era_top.proofs.SessionSteps.{goes-stop, goes-round}
 use Rattle.era_top.proofs.round.serve_round.Goals as goal
 
 -- memory was refused before the first write
 pub returns-in_default-clause-goes : goal.returns-in_default-clause-goes
-returns-in_default-clause-goes g c = λ contents left left' faults faults' spelled.
-    goes-stop c.args.geometry.now contents _ (g.K.Sink.given c.args.sink.now) (g.K.Sink.given c.give_stop.new.sink) MemoryError c.give_stop.result (λ _. refl)
-    (λ session is idle. inl (idle, is)) c.give_stop.ensures.printed
+returns-in_default-clause-goes g c = λ contents left left' faults faults' source.
+    goes-stop c.args.geometry.now contents _ (g.K.Sink.given c.args.sink.now) (g.K.Sink.given c.give_stop.new.sink) MemoryError c.give_stop.result (λ _. refl) refl
+    (λ session is idle. inl (idle, is, source.kept)) c.give_stop.ensures.printed
 
 -- no more outcomes than writes
 pub give_round-requires : goal.give_round-requires
@@ -19,11 +18,11 @@ give_round-requires g c =
 
 -- the writes were run
 pub returns-clause-goes : goal.returns-clause-goes
-returns-clause-goes g c = λ contents left left' faults faults' spelled.
+returns-clause-goes g c = λ contents left left' faults faults' source.
     let run = c.run.ensures.run contents in
     goes-round c.args.geometry.now contents _ (g.K.Sink.given c.args.sink.now) (g.K.Sink.given c.give_round.new.sink) c.as_slice.result.now c.run.new.outcomes.items c.era.result run.0 c.give_round.result
     (rw c.era.ensures run.1)
-    (λ text is. subst (λ tasks. SpellRound (lines_of text) tasks) (sym c.as_slice.ensures) (spelled text is))
+    (subst (λ tasks. IsReadWhole left left' faults faults' tasks) (sym c.as_slice.ensures) source)
     (rw c.as_slice-2.ensures.value at c.give_round.ensures.printed)
 
 -- one of them was cut

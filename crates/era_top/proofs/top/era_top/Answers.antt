@@ -29,7 +29,7 @@ returns-clause-faultless g c =
       sink_faults' = g.K.Sink.faults c.run_words.new.sink;
     })
     c.run_words.result c.number.result c.number.ensures c.run_words.ensures.single_lane_session
-    c.run_words.ensures.fault c.run_words.ensures.source c.run_words.ensures.sink
+    c.run_words.ensures.fault c.run_words.ensures.source c.run_words.ensures.sink.rose
 
 -- the number is the one that the words ask for
 pub returns-clause-exact : goal.returns-clause-exact

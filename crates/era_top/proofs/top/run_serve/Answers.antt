@@ -2,7 +2,7 @@ use Rattle.std.proofs.Common.{refl, []}
 use Rattle.era_top.specs.Refusals.{refusal_status}
 use Rattle.era_top.specs.Reports.{Refuses}
 use Rattle.era_top.specs.Words.{texts_of}
-use Rattle.era_top.proofs.Serving.{served-reports, served-fault, served-source, served-sink, served-returned, none-returned}
+use Rattle.era_top.proofs.Serving.{served-reports, served-fault, served-source, served-returned, none-returned}
 use Rattle.era_top.proofs.top.run_serve.Goals as goal
 
 -- the session's report
@@ -89,34 +89,6 @@ returns-in-Ok-clause-source g c =
     c.in-Ok.geometry c.in-Ok.disk c.serve_lent.result
     [] (c.serve_lent.ensures.served [] (g.B.Bay.loans c.args.bay.now) c.in-Ok.ensures.taken.loans)
 
--- the sink failed
-pub returns-in-Ok-clause-sink : goal.returns-in-Ok-clause-sink
-returns-in-Ok-clause-sink g c =
-    served-sink g.row.B-D.Denot (texts_of c.args.words.now)
-    (record { place = g.B.D.Disk.place; sectors = g.B.D.Disk.sectors; history = g.B.D.Disk.history; faults = g.B.D.Disk.faults; tells = g.B.D.Disk.tells })
-    (record {
-      sizes = g.B.Bay.sizes c.serve_lent.new.bay;
-      reads = g.B.Bay.reads c.args.bay.now;
-      reads' = g.B.Bay.reads c.serve_lent.new.bay;
-      loans = g.B.Bay.loans c.args.bay.now;
-      loans' = g.B.Bay.loans c.serve_lent.new.bay;
-      faults = g.B.Bay.faults c.args.bay.now;
-      faults' = g.B.Bay.faults c.serve_lent.new.bay;
-    })
-    (record { sizes = g.B.Bay.sizes c.open.new.bay; reads = g.B.Bay.reads c.open.new.bay; loans = g.B.Bay.loans c.open.new.bay; faults = g.B.Bay.faults c.open.new.bay })
-    (record {
-      left = g.S.Source.left c.args.source.now;
-      left' = g.S.Source.left c.serve_lent.new.source;
-      source_faults = g.S.Source.faults c.args.source.now;
-      source_faults' = g.S.Source.faults c.serve_lent.new.source;
-      given = g.K.Sink.given c.args.sink.now;
-      given' = g.K.Sink.given c.serve_lent.new.sink;
-      sink_faults = g.K.Sink.faults c.args.sink.now;
-      sink_faults' = g.K.Sink.faults c.serve_lent.new.sink;
-    })
-    c.in-Ok.geometry c.in-Ok.disk c.serve_lent.result
-    [] (c.serve_lent.ensures.served [] (g.B.Bay.loans c.args.bay.now) c.in-Ok.ensures.taken.loans)
-
 -- the one disk that was lent was put back
 pub returns-in-Ok-clause-returned : goal.returns-in-Ok-clause-returned
 returns-in-Ok-clause-returned g c =
@@ -150,7 +122,7 @@ pub returns-in-Err-clause-single_lane_session : goal.returns-in-Err-clause-singl
 returns-in-Err-clause-single_lane_session g c = λ contents. record {
   report = Refuses c.in-Err.refusal;
   ended = refusal_status c.in-Err.refusal;
-  right = (refl, c.in-Err.ensures.0, c.in-Err.ensures.1, refl);
+  right = (refl, c.in-Err.ensures.0, c.in-Err.ensures.1, record { left = refl; faults = refl });
   printed = c.refuse.ensures.printed;
 }
 

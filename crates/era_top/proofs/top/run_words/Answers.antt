@@ -30,7 +30,7 @@ returns-in-Some-clause-single_lane_session g c = λ contents.
       sink_faults' = g.K.Sink.faults c.tell_need.new.sink;
     })
     c.in-Some.sectors c.in-Some.block_sectors c.tell_need.result c.in-Some.ensures.some
-    (record { loans = refl; reads = λ device sector. refl }) refl refl c.tell_need.ensures.told
+    (record { loans = refl; reads = λ device sector. refl }) refl (record { left = refl; faults = refl }) c.tell_need.ensures.told
 
 -- no disk was lent
 pub returns-in-Some-clause-returned : goal.returns-in-Some-clause-returned
