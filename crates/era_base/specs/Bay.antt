@@ -42,7 +42,7 @@ pub record EndsLoan {D : Type 0} (place_of : D → Place) (sectors_of : D → �
   pub last : (later : ℕ) → index < later → IsOut place_of sectors_of old (place_of disk) (sectors_of disk) later → ⊥
   pub loans : new ≡ slice_set old index (ended_loan was.loan disk)
 
--- Two ranges of sectors have a sector in common.
+-- Each of two ranges of sectors begins before the other one ends: they have a sector in common, unless one of them is empty.
 pub record Overlap (first count other other_count : ℕ) : Type 0 where
   pub before : first < other + other_count
   pub behind : other < first + count

@@ -1,7 +1,7 @@
 -- Blocks as runs: pairs of a first and a last block.
 use Rattle.std.specs.Prelude.{ℕ, ◌+◌, ◌<◌, ◌≤◌, Bool, false, ◌&&◌, ◌||◌, nat_le, List, [], ◌∷◌}
 
--- The run begins after a gap: no block of it is, or touches, a block up to the last one of the run before.
+-- The first of the runs, if there is one, begins after a gap: no block of it is, or touches, a block up to the last one of the run before.
 abbrev pub BeginsAfter : ℕ × ℕ → List (ℕ × ℕ) → Type 0
 BeginsAfter before [] = Unit {0}
 BeginsAfter before (run ∷ runs) = before.1 + 1 < run.0

@@ -20,9 +20,6 @@ impl Model for Trail {
 }
 
 impl Trail {
-    /// The most pairs of a trail.
-    pub const ROOM: usize = 24;
-
     /// No events.
     pub fn new() -> Trail
         ensures { result ≡ [] }
