@@ -1,0 +1,4 @@
+pub mod Slot
+pub mod Standing
+pub mod Promise
+pub mod Causes

@@ -1,0 +1,9 @@
+//! The metadata's superblock in two slots, each with a commit flag of its own: after a crash at any moment the old
+//! body or the new one is there, and never a mixture.
+#![tactic(auto)]
+
+mod sectors;
+mod slots;
+mod steps;
+
+pub use slots::Slots;
