@@ -36,10 +36,10 @@ pub written-number : (slot number : ℕ) (seen sectors : List ℕ) → number < 
 unfolding commit_number
 written-number slot number seen sectors below size numbered holds =
     ap (from_le_bytes w64) (
-        ap (λ (k : ℕ). part k 8 seen) (let e : 4096 * slot + 512 ≡ 4096 * slot + 512 + 0 = omega arith in e)
-        ∙ sym (part-part (4096 * slot + 512) (length sectors) 0 8 seen (omega arith))
-        ∙ ap (take 8) holds
-        ∙ numbered)
+    ap (λ (k : ℕ). part k 8 seen) (let e : 4096 * slot + 512 ≡ 4096 * slot + 512 + 0 = omega arith in e)
+    ∙ sym (part-part (4096 * slot + 512) (length sectors) 0 8 seen (omega arith))
+    ∙ ap (take 8) holds
+    ∙ numbered)
     ∙ from_le_bytes-to_le_bytes_8 number below
 
 pub written-body : (slot : ℕ) (seen sectors body : List ℕ) → length sectors ≡ 3584 → length body ≡ 3576 → drop 8 sectors ≡ body

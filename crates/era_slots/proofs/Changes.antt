@@ -43,22 +43,29 @@ part-agree at count from to one two above below a =
     = omega (arith, length-take count (drop at one), length-take count (drop at two), length-drop at one, length-drop at two, a.size) in
     ext_get_or 0 (part at count one) (part at count two) size
     (λ i lt. let inside : i < count = omega (arith, length-take count (drop at one)) in
-        get_or-take count (drop at one) i 0 inside ∙ get_or-drop at one i 0
-        ∙ a.same (at + i) (omega arith) (omega arith)
-        ∙ sym (get_or-take count (drop at two) i 0 inside ∙ get_or-drop at two i 0))
+    get_or-take count (drop at one) i 0 inside ∙ get_or-drop at one i 0
+    ∙ a.same (at + i) (omega arith) (omega arith)
+    ∙ sym (get_or-take count (drop at two) i 0 inside ∙ get_or-drop at two i 0))
 
 -- a part of a part
 pub part-part : (at count inner size : ℕ) (bytes : List ℕ) → inner + size ≤ count → part inner size (part at count bytes) ≡ part (at + inner) size bytes
 part-part at count inner size bytes fits =
     let len : length (part inner size (part at count bytes)) ≡ length (part (at + inner) size bytes)
-    = omega (arith, length-take size (drop inner (part at count bytes)), length-drop inner (part at count bytes), length-take count (drop at bytes),
-      length-drop at bytes, length-take size (drop (at + inner) bytes), length-drop (at + inner) bytes) in
+    = omega (
+      arith,
+      length-take size (drop inner (part at count bytes)),
+      length-drop inner (part at count bytes),
+      length-take count (drop at bytes),
+      length-drop at bytes,
+      length-take size (drop (at + inner) bytes),
+      length-drop (at + inner) bytes,
+    ) in
     ext_get_or 0 _ _ len
     (λ i lt. let inside : i < size = omega (arith, length-take size (drop inner (part at count bytes))) in
-        get_or-take size (drop inner (part at count bytes)) i 0 inside ∙ get_or-drop inner (part at count bytes) i 0
-        ∙ get_or-take count (drop at bytes) (inner + i) 0 (omega arith) ∙ get_or-drop at bytes (inner + i) 0
-        ∙ ap (λ (k : ℕ). get_or bytes k 0) (let e : at + (inner + i) ≡ at + inner + i = omega arith in e)
-        ∙ sym (get_or-take size (drop (at + inner) bytes) i 0 inside ∙ get_or-drop (at + inner) bytes i 0))
+    get_or-take size (drop inner (part at count bytes)) i 0 inside ∙ get_or-drop inner (part at count bytes) i 0
+    ∙ get_or-take count (drop at bytes) (inner + i) 0 (omega arith) ∙ get_or-drop at bytes (inner + i) 0
+    ∙ ap (λ (k : ℕ). get_or bytes k 0) (let e : at + (inner + i) ≡ at + inner + i = omega arith in e)
+    ∙ sym (get_or-take size (drop (at + inner) bytes) i 0 inside ∙ get_or-drop (at + inner) bytes i 0))
 
 -- changes one after another
 pub same_but-none : (from to : ℕ) (state : State) → SameBut from to state state

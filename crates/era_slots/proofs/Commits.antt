@@ -39,7 +39,7 @@ pub commits-staged : (target number : ℕ) (body : List ℕ) (before now : State
 commits-staged target number body before now stands s =
     let slot = stands.slot in
     let stays : Stands target number false now = stands-stays target number (4096 * target + 512) (4096 * target + 4096) false before now
-        (λ offset above below first. omega arith) (λ flag offset above below first. omega arith) (λ flag. absurd (false≢true flag)) s stands in
+    (λ offset above below first. omega arith) (λ flag offset above below first. omega arith) (λ flag. absurd (false≢true flag)) s stands in
     record {
       images = λ image is. committed-before target number (4096 * target + 512) (4096 * target + 4096) before now image (λ offset above below first. omega arith) s
           (image-committed target number now image stays is);
@@ -96,7 +96,7 @@ commits-sealed target number body before mid now few stands first put second =
     let staged = commits-staged target number body before mid stands first in
     let middle = stands-sealed target number body mid few staged.stands put in
     let stays : Stands target number true now = stands-stays target number (4096 * target) (4096 * target + 512) true mid now
-        (λ offset above below first. omega arith) (λ flag. absurd (false≢true (sym flag))) (λ flag offset above below first. omega arith) second middle in
+    (λ offset above below first. omega arith) (λ flag. absurd (false≢true (sym flag))) (λ flag offset above below first. omega arith) second middle in
     let numbered : commit_number target now.seen ≡ number + 1
     = number-stays target (4096 * target) (4096 * target + 512) mid now (λ offset above below first. omega arith) second ∙ put.numbered in
     let holds : body_of target now.seen ≡ body
@@ -104,7 +104,7 @@ commits-sealed target number body before mid now few stands first put second =
     record {
       images = λ image is. elim (image-left target number now image stays is) [
         | inl committed ↦ inl (committed-before target number (4096 * target + 512) (4096 * target + 4096) before mid image (λ offset above below first. omega arith) first
-          (committed-before target number (4096 * target) (4096 * target + 512) mid now image (λ offset above below first. omega arith) second committed))
+            (committed-before target number (4096 * target) (4096 * target + 512) mid now image (λ offset above below first. omega arith) second committed))
         | inr failed ↦ inr (subst (λ bytes. Stores target (number + 1) bytes image) holds failed.stored)
       ];
       stands = stays;

@@ -76,10 +76,10 @@ stores-failed target number state image s is opened next =
         numbered = subst IsCommitNumber (sym same) left.numbered;
         newest = λ second. elim (cases_lt 0 number) [
           | inl some ↦
-            let c = s.committed some in
-            let is_number : commit_number (other target) image ≡ number
-            = number-agree (other target) image state.seen (image-body (other target) state image (committed-body (other target) number state c) is) ∙ c.numbered in
-            (omega (arith, is_number, some), omega (arith, is_number, same, next))
+              let c = s.committed some in
+              let is_number : commit_number (other target) image ≡ number
+              = number-agree (other target) image state.seen (image-body (other target) state image (committed-body (other target) number state c) is) ∙ c.numbered in
+              (omega (arith, is_number, some), omega (arith, is_number, same, next))
           | inr none ↦ absurd (image-closed (other target) state image (s.blank (omega arith)) is second)
         ];
       };
@@ -88,7 +88,7 @@ stores-failed target number state image s is opened next =
     }
 
 closed-or-open : (slot : ℕ) (image : List ℕ) → SlotIsClosed slot image ⊎ SlotIsOpen slot image
-closed-or-open slot image = elim (cases_eq (get_or image (4096 * slot) 0) 1) [ | inl same ↦ inr same | inr differs ↦ inl differs ]
+closed-or-open slot image = elim (cases_eq (get_or image (4096 * slot) 0) 1) [ inl same ↦ inr same | inr differs ↦ inl differs ]
 
 -- the target's gate may be open: the committed body, or the one whose commit failed in opening the gate
 pub image-left : (target number : ℕ) (state : State) (image : List ℕ) → Stands target number true state → IsCrashImage state image
@@ -98,17 +98,17 @@ image-left target number state image s is =
     let same : commit_number target image ≡ commit_number target state.seen = number-agree target image state.seen (image-body target state image left.clean is) in
     elim (closed-or-open target image) [
       | inl closed ↦ inl (record {
-          blank = λ none. closed-both target image s.slot closed (image-closed (other target) state image (s.blank none) is);
-          committed = λ some. stores-committed target number state image some s.below (s.committed some) is
-              (λ opened. absurd (closed (subst (λ slot. SlotIsOpen slot image) (other-other target s.slot) opened)));
-        })
+        blank = λ none. closed-both target image s.slot closed (image-closed (other target) state image (s.blank none) is);
+        committed = λ some. stores-committed target number state image some s.below (s.committed some) is
+            (λ opened. absurd (closed (subst (λ slot. SlotIsOpen slot image) (other-other target s.slot) opened)));
+      })
       | inr opened ↦ elim left.order [
         | inl older ↦ inl (record {
-            blank = λ none. absurd (omega (arith, older, none));
-            committed = λ some. stores-committed target number state image some s.below (s.committed some) is
-                (λ again. subst (λ slot. (0 < commit_number slot image) × (commit_number slot image < number)) (sym (other-other target s.slot))
-                (omega (arith, same, left.numbered.0), omega (arith, same, older)));
-          })
+          blank = λ none. absurd (omega (arith, older, none));
+          committed = λ some. stores-committed target number state image some s.below (s.committed some) is
+              (λ again. subst (λ slot. (0 < commit_number slot image) × (commit_number slot image < number)) (sym (other-other target s.slot))
+              (omega (arith, same, left.numbered.0), omega (arith, same, older)));
+        })
         | inr next ↦ inr (record { failed = next; stored = stores-failed target number state image s is opened next })
       ]
     ]
@@ -118,4 +118,4 @@ pub image-either : (target number : ℕ) (may_be_open : Bool) (state : State) (i
     → HasCommitted target number state image ⊎ ((may_be_open ≡ true) × HasFailed target number state image)
 image-either target number false state image s is = inl (image-committed target number state image s is)
 image-either target number true state image s is =
-    elim (image-left target number state image s is) [ | inl committed ↦ inl committed | inr failed ↦ inr (refl, failed) ]
+    elim (image-left target number state image s is) [ inl committed ↦ inl committed | inr failed ↦ inr (refl, failed) ]

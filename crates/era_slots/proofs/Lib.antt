@@ -7,3 +7,4 @@ pub mod Images
 pub mod Stays
 pub mod Commits
 pub mod Pages
+pub mod Reading

@@ -95,7 +95,7 @@ pub begins-now : (target number : ℕ) (before now : State) → Stands target nu
 begins-now target number before now stands s =
     let slot = stands.slot in
     let stays : Stands target number true now = stands-stays target number (4096 * target) (4096 * target + 512) true before now
-        (λ offset above below first. omega arith) (λ flag. absurd (false≢true (sym flag))) (λ flag offset above below first. omega arith) s stands in
+    (λ offset above below first. omega arith) (λ flag. absurd (false≢true (sym flag))) (λ flag offset above below first. omega arith) s stands in
     record {
       images = λ image is. elim (image-either target number true now image stays is) [
         | inl committed ↦ inl (committed-before target number (4096 * target) (4096 * target + 512) before now image (λ offset above below first. omega arith) s committed)
@@ -122,7 +122,7 @@ pub puts-now : (target number block : ℕ) (before now : State) → 2 ≤ block 
 puts-now target number block before now behind stands s =
     let slot = stands.slot in
     let stays : Stands target number false now = stands-stays target number (4096 * block) (4096 * block + 4096) false before now
-        (λ offset above below first. omega arith) (λ flag offset above below first. omega arith) (λ flag. absurd (false≢true flag)) s stands in
+    (λ offset above below first. omega arith) (λ flag offset above below first. omega arith) (λ flag. absurd (false≢true flag)) s stands in
     record {
       images = λ image is. committed-before target number (4096 * block) (4096 * block + 4096) before now image (λ offset above below first. omega arith) s
           (image-committed target number now image stays is);

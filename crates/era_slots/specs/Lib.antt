@@ -2,3 +2,5 @@ pub mod Slot
 pub mod Standing
 pub mod Promise
 pub mod Causes
+pub mod Opening
+pub mod Found

@@ -1,5 +1,5 @@
 -- The two slots of a metadata disk as bytes: the blocks 0 and 1, of 4,096 bytes each.
-use Rattle.std.specs.Prelude.{◌≡◌, ℕ, ◌+◌, ◌-◌, ◌*◌, ◌^◌, ◌<◌, List, ◌∷◌, slice_index, replicate}
+use Rattle.std.specs.Prelude.{◌≡◌, ℕ, ◌+◌, ◌-◌, ◌*◌, ◌^◌, ◌<◌, ◌≤◌, ◌⊎◌, List, ◌∷◌, slice_index, replicate}
 use Rattle.std.specs.Int.{w64, from_le_bytes}
 use Rattle.era_base.specs.Bytes.{part}
 
@@ -31,19 +31,24 @@ page_of block bytes = part (4096 * block) 4096 bytes
 abbrev pub IsCommitNumber : ℕ → Type 0
 IsCommitNumber number = (0 < number) × (number < 2 ^ 63)
 
+-- A number that no commit has.
+abbrev pub IsBadNumber : ℕ → Type 0
+IsBadNumber number = (number ≡ 0) ⊎ (2 ^ 63 ≤ number)
+
 -- Neither gate is open.
 abbrev pub IsBlank : List ℕ → Type 0
 IsBlank bytes = SlotIsClosed 0 bytes × SlotIsClosed 1 bytes
 
 -- A slot's gate is open over a number that no commit has.
 abbrev pub HasBadNumber : ℕ → List ℕ → Type 0
-HasBadNumber slot bytes = SlotIsOpen slot bytes × ¬ IsCommitNumber (commit_number slot bytes)
+HasBadNumber slot bytes = SlotIsOpen slot bytes × IsBadNumber (commit_number slot bytes)
 
--- Both gates are open over the same number.
+-- Both gates are open over one number, which a commit may have.
 pub record IsTied (bytes : List ℕ) : Type 0 where
   pub first : SlotIsOpen 0 bytes
   pub second : SlotIsOpen 1 bytes
   pub same : commit_number 0 bytes ≡ commit_number 1 bytes
+  pub numbered : IsCommitNumber (commit_number 0 bytes)
 
 -- The slot is the active one: its gate is open over the number of a commit, and the other one's is closed or is open over a smaller one.
 pub record IsActive (slot : ℕ) (bytes : List ℕ) : Type 0 where

@@ -2,8 +2,13 @@
 //! body or the new one is there, and never a mixture.
 #![tactic(auto)]
 
+mod heads;
+mod look;
+mod opened;
+mod opening;
 mod sectors;
 mod slots;
 mod steps;
 
+pub use opened::{Opened, SlotError, SlotRefusal};
 pub use slots::Slots;

@@ -13,7 +13,7 @@ use era_base::Disk;
 /// A metadata disk of at least 3 metadata blocks of 4,096 bytes, whose blocks 0 and 1 are the slots. The next commit
 /// goes to the slot `target`; the other one has the committed body, if there is one.
 #[derive(Drop)]
-pub struct Slots<D: Disk> {
+pub struct Slots<D> {
     /// The disk.
     pub disk: D,
     /// The slot of the next commit, 0 or 1.
@@ -90,7 +90,7 @@ impl<D: Disk> Slots<D> {
         ensures calls { D.tells ≡ true → OnOk result (clock (D.history self.new.disk) ≡ clock (D.history self.old.disk) + 4) }
         ensures done { MatchResult result
             (λ _. (self.new.target ≡ other self.old.target) × (self.new.number ≡ self.old.number + 1)
-                × (self.new.may_be_open ≡ nat_lt 0 self.old.number))
+            × (self.new.may_be_open ≡ nat_lt 0 self.old.number))
             (λ _. (self.new.target ≡ self.old.target) × (self.new.number ≡ self.old.number)) }
         ensures disk { (D.sectors self.new.disk ≡ D.sectors self.old.disk) × (D.place self.new.disk ≡ D.place self.old.disk) }
         ensures cause { HasCount (D.faults self.old.disk) (D.faults self.new.disk) result }

@@ -56,12 +56,7 @@ pub fn open_gate<D: Disk>(disk: &mut D, slot: u32) -> Result<(), u64>
 }
 
 /// Writes a commit number and a body into slot `slot`, not its gate, and syncs.
-pub fn write_body<D: Disk>(
-    disk: &mut D,
-    slot: u32,
-    number: u64,
-    body: &[u8],
-) -> Result<(), u64>
+pub fn write_body<D: Disk>(disk: &mut D, slot: u32, number: u64, body: &[u8]) -> Result<(), u64>
     requires slot { slot < 2 }
     requires room { 24 ≤ D.sectors disk.old }
     requires body { length body.now ≡ 3576 }
@@ -73,9 +68,5 @@ pub fn write_body<D: Disk>(
     ensures place { D.place disk.new ≡ D.place disk.old }
     ensures cause { HasCount (D.faults disk.old) (D.faults disk.new) result }
 {
-    put_synced(
-        disk,
-        u64::from(slot) * 8 + 1,
-        &body_sectors(number, body),
-    )
+    put_synced(disk, u64::from(slot) * 8 + 1, &body_sectors(number, body))
 }
