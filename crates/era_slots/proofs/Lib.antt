@@ -8,3 +8,4 @@ pub mod Stays
 pub mod Commits
 pub mod Pages
 pub mod Reading
+pub mod Gates

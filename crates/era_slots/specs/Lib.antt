@@ -4,3 +4,4 @@ pub mod Promise
 pub mod Causes
 pub mod Opening
 pub mod Found
+pub mod Wiping

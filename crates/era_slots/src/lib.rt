@@ -9,6 +9,7 @@ mod opening;
 mod sectors;
 mod slots;
 mod steps;
+mod wiping;
 
 pub use opened::{Opened, SlotError, SlotRefusal};
 pub use slots::Slots;
