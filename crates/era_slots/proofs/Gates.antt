@@ -12,11 +12,11 @@ use Rattle.era_slots.proofs.Moments.{went-join, went-wider, went-now}
 use Rattle.era_slots.proofs.Bytes.{written-closed}
 
 closed-or-open : (slot : ℕ) (image : List ℕ) → SlotIsClosed slot image ⊎ SlotIsOpen slot image
-closed-or-open slot image = elim (cases_eq (get_or image (4096 * slot) 0) 1) [ | inl same ↦ inr same | inr differs ↦ inl differs ]
+closed-or-open slot image = elim (cases_eq (get_or image (4096 * slot) 0) 1) [ inl same ↦ inr same | inr differs ↦ inl differs ]
 
 -- the bytes of a gate lie outside of another one
 end-apart : (slot : ℕ) (is_open : Bool) (offset : ℕ) → (offset < 4096 * slot) ⊎ (4096 * slot + 512 ≤ offset) → 4096 * slot ≤ offset → gate_end slot is_open ≤ offset
-end-apart slot true offset out above = elim out [ | inl below ↦ absurd (omega arith) | inr behind ↦ behind ]
+end-apart slot true offset out above = elim out [ inl below ↦ absurd (omega arith) | inr behind ↦ behind ]
 end-apart slot false offset out above = above
 
 -- a gate that was on the disk and whose slot did not change is in each image as it was
@@ -39,10 +39,10 @@ same-gate : (slot : ℕ) (seen image : List ℕ) → get_or image (4096 * slot) 
 same-gate slot seen image same = (λ opened. sym same ∙ opened, λ opened. same ∙ opened)
 
 apart-gates : (first : ℕ) → first < 2 → (4096 * other first < 4096 * first) ⊎ (4096 * first + 512 ≤ 4096 * other first)
-apart-gates first slot = elim (cases_lt first 1) [ | inl none ↦ inr (omega arith) | inr one ↦ inl (omega arith) ]
+apart-gates first slot = elim (cases_lt first 1) [ inl none ↦ inr (omega arith) | inr one ↦ inl (omega arith) ]
 
 gates-apart : (first : ℕ) → first < 2 → (4096 * first < 4096 * other first) ⊎ (4096 * other first + 512 ≤ 4096 * first)
-gates-apart first slot = elim (cases_lt first 1) [ | inl none ↦ inl (omega arith) | inr one ↦ inr (omega arith) ]
+gates-apart first slot = elim (cases_lt first 1) [ inl none ↦ inl (omega arith) | inr one ↦ inr (omega arith) ]
 
 gates-first-cases : (first : ℕ) (is_open : Bool) (before now : State) (image : List ℕ) → 12288 ≤ length before.seen → first < 2 → IsClean before
     → (is_open ≡ true) ↔ SlotIsOpen first before.seen → SameBut (4096 * first) (gate_end first is_open) before now → IsCrashImage now image
@@ -115,8 +115,10 @@ as-it-was slot before now image clean s is = elim (cases_lt (4096 * slot) (lengt
 pub wipes-unsynced : (first : ℕ) (before now : State) → SameBut 0 0 before now → Wipes first before now
 wipes-unsynced first before now s = record {
   images = inl s;
-  unpending = λ clean image is. inl (same-gate first before.seen image (as-it-was first before now image clean s is),
-      same-gate (other first) before.seen image (as-it-was (other first) before now image clean s is));
+  unpending = λ clean image is. inl (
+    same-gate first before.seen image (as-it-was first before now image clean s is),
+    same-gate (other first) before.seen image (as-it-was (other first) before now image clean s is),
+  );
   same = record {
     bytes = s.bytes;
     seen = λ offset out. s.seen offset (λ above. above);
@@ -178,7 +180,7 @@ pub gate-read : (at : ℕ) (seen sector : List ℕ) (flag : Bool) → sector ≡
 gate-read at seen sector flag is gate =
     let same : get_or sector 0 0 ≡ get_or seen at 0
     = ap (λ (xs : List ℕ). get_or xs 0 0) is ∙ get_or-take 512 (drop at seen) 0 0 (omega arith) ∙ get_or-drop at seen 0 0
-      ∙ ap (λ (k : ℕ). get_or seen k 0) (let e : at + 0 ≡ at = omega arith in e) in
+    ∙ ap (λ (k : ℕ). get_or seen k 0) (let e : at + 0 ≡ at = omega arith in e) in
     (λ opened. sym same ∙ gate.0 opened, λ opened. gate.1 (same ∙ opened))
 
 -- a gate that was written closed
@@ -204,16 +206,18 @@ went-second first is_open is_open' old mid new slot size clean closed flag flag'
     went-join (Wipes first) (SameBut (4096 * other first) (gate_end (other first) is_open')) old mid new
     (went-first first is_open old mid slot size clean flag one) two
     (λ now s. wipes-second first is_open is_open' old.now mid.now now slot size clean closed.0 closed.1 flag flag'
-      (went-now (SameBut (4096 * first) (gate_end first is_open)) old mid one) s)
+    (went-now (SameBut (4096 * first) (gate_end first is_open)) old mid one) s)
 
 -- both gates are closed
 pub blank-second : {E : Type 0} (first : ℕ) (is_open : Bool) (result : Result (Unit {0}) E) (mid new : History) → first < 2 → SlotIsClosed first mid.now.seen
     → Went (SameBut (4096 * other first) (gate_end (other first) is_open)) mid new
     → OnOk result (IsClean new.now × SlotIsClosed (other first) new.now.seen) → OnOk result (IsClean new.now × IsBlank new.now.seen)
 blank-second first is_open (Err e) mid new slot closed went put = put
-blank-second first is_open (Ok v) mid new slot closed went put =
-    (put.0, blank-both first new.now.seen slot
-      (closed-stays first is_open mid.now new.now slot closed (went-now (SameBut (4096 * other first) (gate_end (other first) is_open)) mid new went)) put.1)
+blank-second first is_open (Ok v) mid new slot closed went put = (
+  put.0,
+  blank-both first new.now.seen slot
+      (closed-stays first is_open mid.now new.now slot closed (went-now (SameBut (4096 * other first) (gate_end (other first) is_open)) mid new went)) put.1,
+)
 
 -- the moments of a wiping that came to the gates
 pub went-wiped : (first target : ℕ) (old mid new : History) → target ≡ first → Went (SameBut 0 0) old mid → IsClean mid.now → Went (Wipes first) mid new

@@ -20,4 +20,11 @@ returns-clause-blank g c = λ told.
     blank-second c.args.first c.args.other_is_open c.close_open-2.result (g.D.Disk.history c.close_open.new.disk) (g.D.Disk.history c.close_open-2.new.disk)
     c.requires.slot closed.1 (c.close_open-2.ensures.moments told)
     (c.close_open-2.ensures.closed told closed.0 (λ flag. still-closed c.args.first c.args.first_is_open c.args.other_is_open
-      (g.D.Disk.history c.args.disk.now) (g.D.Disk.history c.close_open.new.disk) c.requires.slot flag (c.requires.beside told) (c.close_open.ensures.moments told)))
+    (g.D.Disk.history c.args.disk.now) (g.D.Disk.history c.close_open.new.disk) c.requires.slot flag (c.requires.beside told) (c.close_open.ensures.moments told)))
+
+-- the first closing failed
+pub returns-in_err-close_open-clause-moments : goal.returns-in_err-close_open-clause-moments
+returns-in_err-close_open-clause-moments g c = λ told.
+    went-first c.args.first c.args.first_is_open (g.D.Disk.history c.args.disk.now) (g.D.Disk.history c.close_open.new.disk) c.requires.slot
+    (size-whole _ (g.D.Disk.history c.args.disk.now).now c.requires.room (g.met.D.Disk.whole c.args.disk.now told)) (c.requires.clean told)
+    (c.requires.first told) (c.close_open.ensures.moments told)
