@@ -1,11 +1,11 @@
 -- What a slot's bytes are where they were written, and that slots with the same bytes have the same body.
-use Rattle.std.proofs.Common.{◌≡◌, ℕ, ◌+◌, ◌*◌, ◌^◌, ◌<◌, ◌≤◌, List, [], ◌∷◌, ◌++◌, length, get_or, take, drop, replicate, refl, sym, ap, ◌∙◌, arith}
+use Rattle.std.proofs.Common.{◌≡◌, ℕ, ◌+◌, ◌*◌, ◌^◌, ◌<◌, ◌≤◌, List, ◌++◌, length, get_or, take, drop, refl, sym, ap, ◌∙◌, arith}
 use Rattle.std.specs.Int.{w64, to_le_bytes, from_le_bytes}
 use Rattle.std.proofs.lemmas.List.{get_or-take, get_or-drop, length-replicate, length-take-le, append_assoc}
 use Rattle.std.proofs.Math.Seq.{drop-append_seam, take-append_seam, take-length}
 use Rattle.std.proofs.lemmas.Nat.{from_le_bytes-to_le_bytes_8}
 use Rattle.era_base.specs.Bytes.{part, splice}
-use Rattle.era_slots.specs.Slot.{SlotIsOpen, commit_number, body_of, page_of, closed_gate, open_gate}
+use Rattle.era_slots.specs.Slot.{commit_number, body_of, closed_gate, open_gate}
 use Rattle.era_slots.proofs.Changes.{AgreeIn, part-agree, part-part}
 
 -- bytes that were written over others stand there

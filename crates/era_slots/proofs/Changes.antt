@@ -1,10 +1,10 @@
 -- Which bytes a crash leaves, and which bytes and flags stay across calls, by ranges of offsets.
-use Rattle.std.proofs.Common.{◌≡◌, ℕ, ◌+◌, ◌*◌, ◌/◌, ◌<◌, ◌≤◌, false, true, List, length, get_or, take, drop, refl, sym, ap, ◌∙◌, arith, inl, inr}
+use Rattle.std.proofs.Common.{◌≡◌, ℕ, ◌+◌, ◌*◌, ◌/◌, ◌<◌, ◌≤◌, true, List, length, get_or, drop, refl, sym, ap, ◌∙◌, arith, inl, inr}
 use Rattle.std.proofs.lemmas.Bool.{cases_lt, false≢true}
 use Rattle.std.proofs.lemmas.List.{ext_get_or, get_or-take, get_or-drop, length-drop, length-take, get_or_past}
 use Rattle.era_base.specs.Bytes.{part}
-use Rattle.era_base.specs.CrashModel.{State, IsCrashImage, SameBut, Synced, Wrote, IsClean, is_pending}
-use Rattle.era_slots.specs.Standing.{IsCleanIn, IsCleanBut}
+use Rattle.era_base.specs.CrashModel.{State, IsCrashImage, SameBut, Synced, is_pending}
+use Rattle.era_slots.specs.Standing.{IsCleanIn}
 
 -- two lists of bytes are the same from one offset up to another
 pub record AgreeIn (from to : ℕ) (one two : List ℕ) : Type 0 where

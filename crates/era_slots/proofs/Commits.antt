@@ -1,18 +1,18 @@
 -- The moments of a commit, and where the slots stand behind it.
-use Rattle.std.proofs.Common.{◌≡◌, ◌≢◌, ℕ, ◌+◌, ◌-◌, ◌*◌, ◌^◌, ◌<◌, ◌≤◌, ◌⊎◌, Bool, true, false, List, length, get_or, ltb, refl, sym, ap, ◌∙◌, subst, arith, inl, inr}
+use Rattle.std.proofs.Common.{◌≡◌, ℕ, ◌+◌, ◌-◌, ◌*◌, ◌^◌, ◌<◌, ◌⊎◌, true, false, List, get_or, ltb, sym, ◌∙◌, subst, arith, inl, inr}
 use Rattle.std.specs.Prelude.{Result, Ok, Err, OnErr}
 use Rattle.std.proofs.lemmas.Bool.{cases_lt, false≢true}
 use Rattle.std.proofs.lemmas.Bool.Decides.{Decides-ltb}
 use Rattle.era_base.specs.CrashModel.{State, History, IsCrashImage, SameBut, IsClean, Went}
 use Rattle.era_slots.specs.Causes.{IsOnDisk}
-use Rattle.era_slots.specs.Slot.{other, SlotIsOpen, commit_number, body_of, page_of, IsCommitNumber, Stores, closed_gate, open_gate}
-use Rattle.era_slots.specs.Standing.{IsCleanIn, IsCleanBut, IsKnownClosed, IsCommitted, IsOlderOrFailed, Stands}
-use Rattle.era_slots.specs.Promise.{HasCommitted, HasFailed, KeepsPages, IsStaged, IsSealed, Commits, IsStored}
+use Rattle.era_slots.specs.Slot.{other, commit_number, body_of, Stores, closed_gate, open_gate}
+use Rattle.era_slots.specs.Standing.{IsCommitted, Stands}
+use Rattle.era_slots.specs.Promise.{HasCommitted, IsStaged, IsSealed, Commits, IsStored}
 use Rattle.era_slots.proofs.Moments.{went-join, went-wider, went-now}
 use Rattle.era_slots.proofs.Changes.{same_but-join, same_but-wider}
 use Rattle.era_slots.proofs.Bytes.{written-closed, written-open}
 use Rattle.era_slots.proofs.Images.{image-committed, image-left, image-either}
-use Rattle.era_slots.proofs.Stays.{stands-stays, committed-before, pages-stay, number-stays, body-stays}
+use Rattle.era_slots.proofs.Stays.{stands-stays, committed-before, pages-stay, number-stays, body-stays, body-kept}
 
 -- the gate that was closed is known to be closed
 pub stands-begun : (target number : ℕ) (now : State) → Stands target number true now → IsOnDisk (4096 * target) closed_gate now
@@ -52,6 +52,7 @@ commits-of : (target number : ℕ) (body : List ℕ) (before now : State) → ta
 commits-of target number body before now slot s step = record {
   step = step;
   same = s;
+  kept = body-kept (other target) (4096 * target) (4096 * target + 4096) before now (λ offset above below first. omega arith) s;
   pages = pages-stay target (4096 * target) (4096 * target + 4096) before now (λ block behind differs offset above below first. omega arith) s;
 }
 

@@ -1,10 +1,10 @@
 -- Which gates are open in the images of a wiping, and which bytes stay.
-use Rattle.std.proofs.Common.{◌≡◌, ℕ, zero, suc, ◌+◌, ◌-◌, ◌*◌, ◌<◌, ◌≤◌, ◌⊎◌, ◌↔◌, Bool, true, false, List, length, get_or, take, drop, refl, sym, ap, ◌∙◌, subst, arith, inl, inr}
+use Rattle.std.proofs.Common.{◌≡◌, ℕ, zero, suc, ◌+◌, ◌*◌, ◌<◌, ◌≤◌, ◌⊎◌, ◌↔◌, Bool, true, false, List, length, get_or, drop, refl, sym, ap, ◌∙◌, subst, arith, inl, inr}
 use Rattle.std.specs.Prelude.{Result, Ok, Err, OnOk}
 use Rattle.std.proofs.lemmas.Bool.{cases_lt, cases_eq, false≢true}
 use Rattle.std.proofs.lemmas.List.{ext_get_or, get_or_past, get_or-take, get_or-drop}
 use Rattle.era_base.specs.Bytes.{part}
-use Rattle.era_base.specs.CrashModel.{State, History, IsCrashImage, SameBut, Leaves, IsClean, Went, is_pending}
+use Rattle.era_base.specs.CrashModel.{State, History, IsCrashImage, SameBut, Leaves, IsClean, Went}
 use Rattle.era_slots.specs.Causes.{IsOnDisk}
 use Rattle.era_slots.specs.Slot.{other, SlotIsOpen, SlotIsClosed, IsBlank, closed_gate}
 use Rattle.era_slots.specs.Wiping.{IsSameGate, HasGates, IsOutside, SameButOpenGates, Wipes, gate_end}

@@ -1,11 +1,11 @@
 -- What each crash image of a state has in its slots, where the slots stand.
-use Rattle.std.proofs.Common.{◌≡◌, ℕ, zero, suc, ◌+◌, ◌-◌, ◌*◌, ◌^◌, ◌<◌, ◌≤◌, ◌⊎◌, Bool, true, false, List, length, get_or, refl, sym, ap, ◌∙◌, subst, arith, inl, inr}
+use Rattle.std.proofs.Common.{◌≡◌, ℕ, zero, suc, ◌+◌, ◌*◌, ◌^◌, ◌<◌, ◌⊎◌, Bool, true, false, List, get_or, refl, sym, ◌∙◌, subst, arith, inl, inr}
 use Rattle.std.proofs.lemmas.Bool.{cases_lt, cases_eq}
-use Rattle.era_base.specs.CrashModel.{State, IsCrashImage, SameBut, IsClean}
-use Rattle.era_slots.specs.Slot.{other, SlotIsOpen, SlotIsClosed, commit_number, body_of, IsBlank, IsCommitNumber, IsActive, Stores}
-use Rattle.era_slots.specs.Standing.{IsCleanIn, IsDurable, IsKnownClosed, IsCommitted, IsOlderOrFailed, Stands}
+use Rattle.era_base.specs.CrashModel.{State, IsCrashImage}
+use Rattle.era_slots.specs.Slot.{other, SlotIsOpen, SlotIsClosed, commit_number, body_of, IsBlank, IsCommitNumber, Stores}
+use Rattle.era_slots.specs.Standing.{IsCleanIn, IsKnownClosed, IsCommitted, Stands}
 use Rattle.era_slots.specs.Promise.{HasCommitted, HasFailed}
-use Rattle.era_slots.proofs.Changes.{AgreeIn, agree-image, agree-narrow}
+use Rattle.era_slots.proofs.Changes.{AgreeIn, agree-image}
 use Rattle.era_slots.proofs.Bytes.{number-agree, body-agree}
 
 -- a gate that is known to be closed is closed in each image

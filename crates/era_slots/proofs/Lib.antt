@@ -9,3 +9,4 @@ pub mod Commits
 pub mod Pages
 pub mod Reading
 pub mod Gates
+pub mod Survival

@@ -3,7 +3,7 @@ use Rattle.std.proofs.Common.{◌≡◌, ℕ, zero, suc, ◌+◌, ◌<◌, ◌�
 use Rattle.std.proofs.lemmas.Bool.{cases_lt}
 use Rattle.std.proofs.lemmas.List.{get_or_append_left, get_or_past, length_push}
 use Rattle.std.proofs.Math.Seq.{get_or-append_seam}
-use Rattle.era_base.specs.CrashModel.{State, History, clock, state_at, Stepped, Continues, AllBetween, Went}
+use Rattle.era_base.specs.CrashModel.{State, History, clock, state_at, Stepped, Continues, Went}
 
 -- the present moment has the present state
 pub state_at-now : (h : History) (moment : ℕ) → clock h ≤ moment → state_at h moment ≡ h.now

@@ -1,5 +1,5 @@
 -- A page that is put, and a page that is read.
-use Rattle.std.proofs.Common.{◌≡◌, ℕ, ◌+◌, ◌*◌, ◌<◌, ◌≤◌, Bool, false, List, length, refl, sym, ap, ◌∙◌, subst, arith}
+use Rattle.std.proofs.Common.{◌≡◌, ℕ, ◌+◌, ◌*◌, ◌≤◌, Bool, false, List, length, sym, ap, ◌∙◌, subst, arith}
 use Rattle.era_base.specs.Bytes.{part, splice}
 use Rattle.era_base.specs.CrashModel.{State, History, Stepped, SameBut, Went, IsWhole}
 use Rattle.era_slots.specs.Slot.{page_of}

@@ -1,7 +1,7 @@
 -- A write and the sync behind it.
-use Rattle.std.proofs.Common.{◌≡◌, ℕ, ◌+◌, ◌*◌, ◌≤◌, List, length, refl, sym, ap, ◌∙◌, subst, arith}
+use Rattle.std.proofs.Common.{◌≡◌, ℕ, ◌≤◌, List, length, sym, ap, ◌∙◌, subst, arith}
 use Rattle.era_base.specs.Bytes.{part, splice}
-use Rattle.era_base.specs.CrashModel.{State, History, IsWhole, Stepped, SameBut, Synced, Wrote, Went}
+use Rattle.era_base.specs.CrashModel.{State, History, IsWhole, Stepped, SameBut, Synced, Went}
 use Rattle.era_slots.specs.Causes.{IsOnDisk}
 use Rattle.era_slots.proofs.Moments.{went-step, went-join}
 use Rattle.era_slots.proofs.Changes.{same_but-none, same_but-join, synced-same}

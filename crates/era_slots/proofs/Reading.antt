@@ -1,9 +1,9 @@
 -- What an opening found on the disk, from the bytes that it read.
-use Rattle.std.proofs.Common.{◌≡◌, ℕ, ◌+◌, ◌-◌, ◌*◌, ◌^◌, ◌<◌, ◌≤◌, ◌⊎◌, ◌↔◌, Bool, true, false, List, length, get_or, take, drop, Some, None, Option, refl, sym, ap, ◌∙◌, subst, arith, inl, inr}
+use Rattle.std.proofs.Common.{◌≡◌, ℕ, ◌+◌, ◌-◌, ◌*◌, ◌<◌, ◌≤◌, ◌↔◌, Bool, true, false, List, length, get_or, take, drop, Some, None, Option, refl, sym, ap, ◌∙◌, subst, arith, inl, inr}
 use Rattle.std.specs.Prelude.{MatchOption}
 use Rattle.std.specs.Int.{w64, from_le_bytes}
-use Rattle.std.proofs.lemmas.Bool.{cases_lt, false≢true}
-use Rattle.std.proofs.lemmas.List.{get_or-take, get_or-drop, length-drop, length-take, length-take-le}
+use Rattle.std.proofs.lemmas.Bool.{false≢true}
+use Rattle.std.proofs.lemmas.List.{get_or-take, get_or-drop, length-drop}
 use Rattle.std.proofs.Math.Seq.{take-length}
 use Rattle.era_base.specs.Bytes.{part}
 use Rattle.era_base.specs.CrashModel.{State, History, IsWhole, Stepped, SameBut, Synced, IsClean, Went}
@@ -11,9 +11,9 @@ use Rattle.era_slots.specs.declared.heads.Found.{Found}
 use Rattle.era_slots.specs.declared.heads.Found.TheVariants.{NoneOpen, BadSequence as FoundBad, Tied, Active}
 use Rattle.era_slots.specs.declared.heads.Head.{Head}
 use Rattle.era_slots.specs.Found.{IsFound, IsBadHead, IsActiveHead}
-use Rattle.era_slots.specs.Slot.{other, SlotIsOpen, SlotIsClosed, commit_number, body_of, page_of, IsBlank, IsBadNumber, HasBadNumber, IsCommitNumber, IsActive, IsTied}
-use Rattle.era_slots.specs.Standing.{IsCleanIn, IsKnownClosed, IsCommitted, IsOlderOrFailed, Stands}
-use Rattle.era_slots.specs.Opening.{IsFoundIn, HasFirstBadNumber, AreBodies, IsOther}
+use Rattle.era_slots.specs.Slot.{other, SlotIsOpen, SlotIsClosed, commit_number, body_of, page_of, IsBlank, IsBadNumber, HasBadNumber, IsCommitNumber, IsActive}
+use Rattle.era_slots.specs.Standing.{IsCommitted, Stands}
+use Rattle.era_slots.specs.Opening.{IsFoundIn, IsOther}
 use Rattle.era_slots.proofs.Moments.{went-step, went-join, went-now}
 use Rattle.era_slots.proofs.Changes.{part-part, same_but-none, same_but-join}
 use Rattle.era_slots.proofs.Puts.{went-two, same_but-failed, same_but-synced}

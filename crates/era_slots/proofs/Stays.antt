@@ -1,11 +1,11 @@
 -- What of the slots stays while other bytes change.
-use Rattle.std.proofs.Common.{◌≡◌, ◌≢◌, ℕ, ◌+◌, ◌-◌, ◌*◌, ◌^◌, ◌<◌, ◌≤◌, ◌⊎◌, Bool, true, false, List, length, get_or, refl, sym, ap, ◌∙◌, subst, arith, inl, inr}
-use Rattle.std.proofs.lemmas.Bool.{cases_lt, false≢true}
-use Rattle.era_base.specs.CrashModel.{State, IsCrashImage, SameBut, IsClean}
-use Rattle.era_slots.specs.Slot.{other, SlotIsOpen, SlotIsClosed, commit_number, body_of, page_of, IsBlank, IsCommitNumber, IsActive, Stores}
-use Rattle.era_slots.specs.Standing.{IsCleanIn, IsCleanBut, IsDurable, IsKnownClosed, IsCommitted, IsOlderOrFailed, Stands}
-use Rattle.era_slots.specs.Promise.{HasCommitted, HasFailed, KeepsPages, Begins, PutsPage}
-use Rattle.era_slots.proofs.Changes.{AgreeIn, Apart, agree-same, agree-narrow, clean-same, part-agree, same_but-none}
+use Rattle.std.proofs.Common.{◌≡◌, ◌≢◌, ℕ, ◌+◌, ◌*◌, ◌<◌, ◌≤◌, ◌⊎◌, Bool, true, false, List, refl, sym, ◌∙◌, subst, arith, inl, inr}
+use Rattle.std.proofs.lemmas.Bool.{false≢true}
+use Rattle.era_base.specs.CrashModel.{State, SameBut}
+use Rattle.era_slots.specs.Slot.{other, commit_number, body_of, IsCommitNumber, Stores}
+use Rattle.era_slots.specs.Standing.{IsKnownClosed, IsCommitted, IsOlderOrFailed, Stands}
+use Rattle.era_slots.specs.Promise.{HasCommitted, HasFailed, KeepsPages, KeepsBody, Begins, PutsPage}
+use Rattle.era_slots.proofs.Changes.{Apart, agree-same, agree-narrow, clean-same, part-agree, same_but-none}
 use Rattle.era_slots.proofs.Bytes.{number-agree, body-agree}
 use Rattle.era_slots.proofs.Images.{image-committed, image-either}
 
@@ -79,6 +79,14 @@ failed-before target number first last before now image apart s has = record {
   stored = subst (λ body. Stores target (number + 1) body image) (body-stays target first last before now apart s) has.stored;
 }
 
+-- a slot that isn't changed keeps its body
+pub body-kept : (slot first last : ℕ) (before now : State) → Apart (4096 * slot + 512) (4096 * slot + 4096) first last
+    → SameBut first last before now → KeepsBody slot before now
+body-kept slot first last before now apart s = record {
+  numbered = number-stays slot first last before now apart s;
+  holds = body-stays slot first last before now apart s;
+}
+
 -- pages stay
 pub pages-stay : (but first last : ℕ) (before now : State)
     → ((block : ℕ) → 2 ≤ block → block ≢ but → Apart (4096 * block) (4096 * block + 4096) first last)
@@ -102,6 +110,8 @@ begins-now target number before now stands s =
         | inr failed ↦ inr (refl, failed-before target number (4096 * target) (4096 * target + 512) before now image (λ offset above below first. omega arith) s failed.1)
       ];
       same = s;
+      kept = body-kept (other target) (4096 * target) (4096 * target + 512) before now (λ offset above below first. omega arith) s;
+      failed = body-kept target (4096 * target) (4096 * target + 512) before now (λ offset above below first. omega arith) s;
       pages = pages-stay target (4096 * target) (4096 * target + 512) before now (λ block behind differs offset above below first. omega arith) s;
       stands = stays;
     }
@@ -112,6 +122,8 @@ pub begins-none : (target number : ℕ) (may_be_open : Bool) (before : State) �
 begins-none target number may_be_open before stands = record {
   images = λ image is. image-either target number may_be_open before image stands is;
   same = same_but-none (4096 * target) (4096 * target + 512) before;
+  kept = record { numbered = refl; holds = refl };
+  failed = record { numbered = refl; holds = refl };
   pages = record { seen = λ block behind differs. refl; durable = λ block behind differs clean. clean };
   stands = stands;
 }
@@ -127,6 +139,7 @@ puts-now target number block before now behind stands s =
       images = λ image is. committed-before target number (4096 * block) (4096 * block + 4096) before now image (λ offset above below first. omega arith) s
           (image-committed target number now image stays is);
       same = s;
+      kept = body-kept (other target) (4096 * block) (4096 * block + 4096) before now (λ offset above below first. omega arith) s;
       pages = pages-stay block (4096 * block) (4096 * block + 4096) before now (λ page past differs offset above below first. omega (arith, differs)) s;
       stands = stays;
     }

@@ -1,5 +1,5 @@
 -- What two slots are together, by their heads: the gate and the commit number of each.
-use Rattle.std.specs.Prelude.{◌≡◌, ℕ, ◌<◌, ◌⊎◌, true, false}
+use Rattle.std.specs.Prelude.{◌≡◌, ◌<◌, ◌⊎◌, true, false}
 use Rattle.era_slots.specs.declared.heads.Found.{Found}
 use Rattle.era_slots.specs.declared.heads.Found.TheVariants.{NoneOpen, BadSequence, Tied, Active}
 use Rattle.era_slots.specs.declared.heads.Head.{Head}

@@ -1,5 +1,5 @@
 -- What an opening answers, and why.
-use Rattle.std.specs.Prelude.{◌≡◌, ℕ, ◌+◌, ◌*◌, ◌<◌, ◌↔◌, true, false, List, Option, Some, None, Result, Ok, Err, MatchOption, slice_index, drop}
+use Rattle.std.specs.Prelude.{◌≡◌, ℕ, ◌<◌, ◌↔◌, true, false, List, Option, Result, Ok, Err, MatchOption, slice_index, drop}
 use Rattle.era_base.specs.CrashModel.{State, IsClean}
 use Rattle.era_base.specs.Faults.{Rose}
 use Rattle.era_slots.specs.declared.slots.Slots.{Slots}

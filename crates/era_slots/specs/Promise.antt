@@ -14,6 +14,11 @@ pub record HasFailed (target number : ℕ) (before : State) (image : List ℕ) :
   pub failed : commit_number target before.seen ≡ number + 1
   pub stored : Stores target (number + 1) (body_of target before.seen) image
 
+-- A slot's number and body are what they were.
+pub record KeepsBody (slot : ℕ) (before now : State) : Type 0 where
+  pub numbered : commit_number slot now.seen ≡ commit_number slot before.seen
+  pub holds : body_of slot now.seen ≡ body_of slot before.seen
+
 -- What a read gives of each metadata block behind the slots stays, and what was on the disk stays there; one block is left out.
 pub record KeepsPages (but : ℕ) (before after : State) : Type 0 where
   pub seen : (block : ℕ) → 2 ≤ block → block ≢ but → page_of block after.seen ≡ page_of block before.seen
@@ -24,6 +29,8 @@ pub record Begins (target number : ℕ) (may_be_open : Bool) (before now : State
   pub images : Leaves (λ image. HasCommitted target number before image
       ⊎ ((may_be_open ≡ true) × HasFailed target number before image)) now
   pub same : SameBut (4096 * target) (4096 * target + 512) before now
+  pub kept : KeepsBody (other target) before now
+  pub failed : KeepsBody target before now
   pub pages : KeepsPages target before now
   pub stands : Stands target number may_be_open now
 
@@ -31,6 +38,7 @@ pub record Begins (target number : ℕ) (may_be_open : Bool) (before now : State
 pub record PutsPage (target number block : ℕ) (before now : State) : Type 0 where
   pub images : Leaves (HasCommitted target number before) now
   pub same : SameBut (4096 * block) (4096 * block + 4096) before now
+  pub kept : KeepsBody (other target) before now
   pub pages : KeepsPages block before now
   pub stands : Stands target number false now
 
@@ -52,6 +60,7 @@ pub record IsSealed (target number : ℕ) (body : List ℕ) (before now : State)
 pub record Commits (target number : ℕ) (body : List ℕ) (before now : State) : Type 0 where
   pub step : IsStaged target number before now ⊎ IsSealed target number body before now
   pub same : SameBut (4096 * target) (4096 * target + 4096) before now
+  pub kept : KeepsBody (other target) before now
   pub pages : KeepsPages target before now
 
 -- The state after a `commit` that answered Ok: each crash image has the new body alone, and all is on the disk.

@@ -1,5 +1,5 @@
 -- What holds of the slots at every moment between the calls and inside them.
-use Rattle.std.specs.Prelude.{◌≡◌, ℕ, ◌+◌, ◌*◌, ◌^◌, ◌<◌, ◌≤◌, ◌⊎◌, Bool, true, false, List, length}
+use Rattle.std.specs.Prelude.{◌≡◌, ℕ, ◌+◌, ◌*◌, ◌^◌, ◌<◌, ◌≤◌, ◌⊎◌, Bool, true, false, length}
 use Rattle.era_base.specs.CrashModel.{State, is_pending}
 use Rattle.era_slots.specs.Slot.{other, SlotIsOpen, SlotIsClosed, commit_number, IsCommitNumber}
 

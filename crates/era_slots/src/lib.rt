@@ -3,6 +3,7 @@
 #![tactic(auto)]
 
 mod heads;
+mod laws;
 mod look;
 mod opened;
 mod opening;
@@ -11,5 +12,9 @@ mod slots;
 mod steps;
 mod wiping;
 
+pub use laws::{
+    new_body_has_its_pages, one_slot_is_active, page_on_the_disk_is_left,
+    page_that_is_not_put_stays, page_under_an_open_gate_is_on_the_disk,
+};
 pub use opened::{Opened, SlotError, SlotRefusal};
 pub use slots::Slots;

@@ -1,4 +1,4 @@
-use Rattle.std.proofs.Common.{◌≡◌, false, sym, ◌∙◌}
+use Rattle.std.proofs.Common.{sym, ◌∙◌}
 use Rattle.std.proofs.lemmas.Bool.{false≢true}
 use Rattle.era_slots.proofs.Reading.{rest-of}
 use Rattle.era_slots.proofs.opening.bodies_of.Goals as goal

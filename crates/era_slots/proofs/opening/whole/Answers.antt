@@ -1,4 +1,4 @@
-use Rattle.std.proofs.Common.{◌≡◌, true, refl, sym, ◌∙◌}
+use Rattle.std.proofs.Common.{refl}
 use Rattle.era_slots.specs.Slot.{other}
 use Rattle.era_slots.proofs.Reading.{is-head, stands-opened, size-whole, body-page, other-page}
 use Rattle.era_slots.proofs.opening.whole.Goals as goal

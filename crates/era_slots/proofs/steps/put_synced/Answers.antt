@@ -1,5 +1,4 @@
-use Rattle.std.proofs.Common.{◌+◌, ◌*◌, length, arith}
-use Rattle.era_slots.proofs.Puts.{went-two, same_but-failed, same_but-synced, on_disk-synced}
+use Rattle.era_slots.proofs.Puts.{went-two, same_but-failed, same_but-synced}
 use Rattle.era_slots.proofs.steps.put_synced.Goals as goal
 
 -- the sync failed

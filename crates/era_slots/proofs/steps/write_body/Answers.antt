@@ -1,4 +1,4 @@
-use Rattle.std.proofs.Common.{◌≡◌, ◌+◌, ◌*◌, length, arith}
+use Rattle.std.proofs.Common.{◌+◌, ◌*◌, arith}
 use Rattle.era_slots.proofs.Written.{written-slot}
 use Rattle.era_slots.proofs.steps.write_body.Goals as goal
 

@@ -1,4 +1,4 @@
-use Rattle.std.proofs.Common.{◌≡◌, true, false, sym, ◌∙◌}
+use Rattle.std.proofs.Common.{sym, ◌∙◌}
 use Rattle.std.proofs.lemmas.Bool.{false≢true}
 use Rattle.era_slots.proofs.Reading.{size-whole}
 use Rattle.era_slots.proofs.Gates.{went-first, went-second, blank-second, still-closed}

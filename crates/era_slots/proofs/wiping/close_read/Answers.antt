@@ -1,4 +1,4 @@
-use Rattle.era_slots.proofs.Gates.{gate-read, went-wiped, went-unsynced, is-second}
+use Rattle.era_slots.proofs.Gates.{gate-read, went-wiped, is-second}
 use Rattle.era_slots.proofs.wiping.close_read.Goals as goal
 
 pub close_both-requires-clause-beside : goal.close_both-requires-clause-beside

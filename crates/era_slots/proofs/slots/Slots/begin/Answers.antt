@@ -1,6 +1,3 @@
-use Rattle.std.proofs.Common.{◌≡◌, ◌+◌, ◌*◌, true, subst, sym}
-use Rattle.era_base.specs.CrashModel.{SameBut}
-use Rattle.era_slots.specs.Standing.{Stands}
 use Rattle.era_slots.specs.Promise.{Begins}
 use Rattle.era_slots.proofs.Moments.{went-none, went-wider, went-now}
 use Rattle.era_slots.proofs.Stays.{begins-now, begins-none}

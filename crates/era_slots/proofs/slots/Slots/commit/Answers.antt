@@ -1,7 +1,5 @@
-use Rattle.std.proofs.Common.{◌≡◌, ◌+◌, ◌*◌, true, false, refl, sym, subst, ◌∙◌}
+use Rattle.std.proofs.Common.{sym, ◌∙◌}
 use Rattle.std.proofs.lemmas.Bool.{false≢true}
-use Rattle.era_slots.specs.Standing.{Stands}
-use Rattle.era_slots.specs.Promise.{IsStaged, IsSealed}
 use Rattle.era_slots.proofs.Moments.{went-now}
 use Rattle.era_slots.proofs.Commits.{on_err, commits-staged, went-body, went-gate, sealed-now, stands-stored, stored-now}
 use Rattle.era_slots.proofs.slots.Slots.commit.Goals as goal

@@ -1,4 +1,4 @@
-use Rattle.std.proofs.Common.{◌≡◌, arith}
+use Rattle.std.proofs.Common.{arith}
 use Rattle.era_slots.proofs.Reading.{stands-blank, size-whole, active-first, active-second}
 use Rattle.era_slots.proofs.slots.Slots.open.Goals as goal
 

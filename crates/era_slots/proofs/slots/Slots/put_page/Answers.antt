@@ -1,4 +1,4 @@
-use Rattle.std.proofs.Common.{◌≡◌, ◌+◌, ◌*◌, length, arith}
+use Rattle.std.proofs.Common.{◌*◌, length, arith}
 use Rattle.era_slots.proofs.Pages.{went-put, stands-put, page-put}
 use Rattle.era_slots.proofs.slots.Slots.put_page.Goals as goal
 

@@ -1,4 +1,4 @@
-use Rattle.std.proofs.Common.{◌≡◌, ◌+◌, ◌*◌, length, arith, ◌∙◌}
+use Rattle.std.proofs.Common.{◌*◌, arith, ◌∙◌}
 use Rattle.era_slots.proofs.Pages.{page-read}
 use Rattle.era_slots.proofs.slots.Slots.read_page.Goals as goal
 
