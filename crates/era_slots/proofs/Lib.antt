@@ -1,0 +1,12 @@
+pub mod Moments
+pub mod Changes
+pub mod Bytes
+pub mod Puts
+pub mod Written
+pub mod Images
+pub mod Stays
+pub mod Commits
+pub mod Pages
+pub mod Reading
+pub mod Gates
+pub mod Survival

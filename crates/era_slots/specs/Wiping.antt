@@ -1,0 +1,44 @@
+-- The promise of a wiping: what each moment of it is to the state before it.
+use Rattle.std.specs.Prelude.{◌≡◌, ℕ, ◌+◌, ◌*◌, ◌<◌, ◌≤◌, ◌⊎◌, ◌↔◌, Bool, true, false, List, length, slice_index}
+use Rattle.era_base.specs.CrashModel.{State, SameBut, Leaves, IsClean, is_pending}
+use Rattle.era_base.specs.Faults.{Rose}
+use Rattle.era_slots.specs.declared.opened.SlotError.{SlotError}
+use Rattle.era_slots.specs.declared.opened.SlotError.TheVariants.{Fault, BadSequence, SequenceTie, Memory}
+use Rattle.era_slots.specs.Slot.{other, SlotIsOpen, SlotIsClosed}
+
+-- A slot's gate is open in the image exactly where it was.
+abbrev pub IsSameGate : ℕ → List ℕ → List ℕ → Type 0
+IsSameGate slot seen image = SlotIsOpen slot image ↔ SlotIsOpen slot seen
+
+-- The open gates of the image are those that were, or those without the first, or none.
+abbrev pub HasGates : ℕ → List ℕ → List ℕ → Type 0
+HasGates first seen image = (IsSameGate first seen image × IsSameGate (other first) seen image)
+    ⊎ (SlotIsClosed first image × (IsSameGate (other first) seen image ⊎ SlotIsClosed (other first) image))
+
+-- A byte lies outside of the gates that were open.
+abbrev pub IsOutside : List ℕ → ℕ → Type 0
+IsOutside seen offset = (slot : ℕ) → slot < 2 → SlotIsOpen slot seen → 4096 * slot ≤ offset → 4096 * slot + 512 ≤ offset
+
+-- Nothing has changed outside of the gates that were open, and no sector outside has become pending.
+pub record SameButOpenGates (before after : State) : Type 0 where
+  pub bytes : length after.seen ≡ length before.seen
+  pub seen : (offset : ℕ) → IsOutside before.seen offset → slice_index after.seen offset ≡ slice_index before.seen offset
+  pub clean : (offset : ℕ) → IsOutside before.seen offset → is_pending before offset ≡ false → is_pending after offset ≡ false
+
+-- A moment of `wipe`. Until its first sync has answered Ok the crash images are among those of before.
+pub record Wipes (first : ℕ) (before now : State) : Type 0 where
+  pub images : SameBut 0 0 before now ⊎ Leaves (HasGates first before.seen) now
+  pub unpending : IsClean before → Leaves (HasGates first before.seen) now
+  pub same : SameButOpenGates before now
+
+-- Where the bytes of a gate end that is closed where it is open.
+abbrev pub gate_end : ℕ → Bool → ℕ
+gate_end slot true = 4096 * slot + 512
+gate_end slot false = 4096 * slot
+
+-- The only refusal of a wiping that takes no memory is a fault, which is the disk's count, which rose.
+abbrev pub IsFault : ℕ → ℕ → SlotError → Type 0
+IsFault before now (Fault count) = (count ≡ now) × Rose before now
+IsFault before now (BadSequence slot) = ⊥
+IsFault before now SequenceTie = ⊥
+IsFault before now Memory = ⊥
