@@ -1,6 +1,6 @@
 -- The number of a call, by what its words and the origin's size say.
-use Rattle.std.proofs.Common.{◌≡◌, ◌⊎◌, inl, inr, ℕ, ◌<◌, ◌≤◌, List, [], ◌∷◌, refl, ap, sym, ◌∙◌, subst, arith}
-use Rattle.std.specs.Prelude.{codes, decimal, Option, Some}
+use Rattle.std.proofs.Common.{◌≡◌, ◌⊎◌, inl, inr, ℕ, ◌<◌, List, refl, ap, sym, ◌∙◌, subst, arith}
+use Rattle.std.specs.Prelude.{decimal, Option, Some}
 use Rattle.std.proofs.lemmas.Fmt.{decimal_injective}
 use Rattle.era_base.specs.declared.geometry.Geometry.{Geometry}
 use Rattle.era_base.specs.declared.geometry.GeomError.{GeomError}
@@ -15,7 +15,7 @@ use Rattle.era_top.specs.Needs.{AnswersNeed, IsNumberRefusal, TellsNeed}
 use Rattle.era_top.specs.Refusals.{refusal_status}
 use Rattle.era_top.specs.Reports.{Report, Refuses, Needs, Serves, Reports, AsksFor, IsCauseOf, IsNoGeometry, IsReported}
 use Rattle.era_top.specs.Top.{number_of}
-use Rattle.era_top.specs.Words.{GiveNumbers, IsNeed, IsNoCommand, IsServe}
+use Rattle.era_top.specs.Words.{GiveNumbers, IsNeed, IsNoCommand}
 use Rattle.era_top.proofs.Faultless.{geometry-never, same_line, serve-not_need}
 
 -- words that give numbers are a command

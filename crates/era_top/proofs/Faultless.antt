@@ -1,5 +1,5 @@
 -- What a call ends with where nothing is refused and no count rises.
-use Rattle.std.proofs.Common.{◌≡◌, ◌⊎◌, inl, inr, ℕ, ◌<◌, ◌≤◌, List, [], ◌∷◌, refl, ap, sym, ◌∙◌, subst, arith}
+use Rattle.std.proofs.Common.{◌≡◌, ◌⊎◌, inl, inr, ℕ, ◌<◌, ◌≤◌, List, [], refl, ap, sym, ◌∙◌, subst, arith}
 use Rattle.std.specs.Prelude.{Option, Some}
 use Rattle.era_base.specs.declared.geometry.GeomError.{GeomError}
 use Rattle.era_base.specs.declared.geometry.Geometry.{Geometry}

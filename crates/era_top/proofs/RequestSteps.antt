@@ -1,16 +1,16 @@
 -- A checkpoint or a list behind the other commands of a run.
-use Rattle.std.proofs.Common.{◌≡◌, ◌⊎◌, ℕ, ◌+◌, ◌<◌, ◌≤◌, ◌&&◌, Bool, true, false, List, [], ◌∷◌, ◌++◌, length, Some, None, refl, ap, sym, ◌∙◌, subst, inl, inr, arith}
+use Rattle.std.proofs.Common.{◌≡◌, ℕ, ◌+◌, ◌<◌, ◌≤◌, ◌&&◌, Bool, true, false, List, [], ◌∷◌, ◌++◌, length, Some, None, refl, ap, sym, ◌∙◌, subst, inl, inr, arith}
 use Rattle.std.specs.Prelude.{max, nat_le, nat_lt}
 use Rattle.std.proofs.lemmas.Bool.{cases_lt}
 use Rattle.std.proofs.lemmas.Bool.Decides.{nat_tests}
 use Rattle.std.proofs.lemmas.List.{length_push}
 use Rattle.era_base.specs.declared.geometry.Geometry.{Geometry}
-use Rattle.era_base.specs.CrashModel.{State, IsClean}
+use Rattle.era_base.specs.CrashModel.{State}
 use Rattle.era_base.specs.Geometry.{blocks_of}
 use Rattle.era_model.specs.declared.event.Event.{Event}
 use Rattle.era_model.specs.declared.event.Event.TheVariants.{Roll, List as ListEvent, Refused}
-use Rattle.era_model.specs.declared.event.Kind.TheVariants.{Checkpoint as CheckpointKind, List as ListKind}
-use Rattle.era_model.specs.declared.event.Why.TheVariants.{End, Memory}
+use Rattle.era_model.specs.declared.event.Kind.TheVariants.{List as ListKind}
+use Rattle.era_model.specs.declared.event.Why.TheVariants.{Memory}
 use Rattle.era_model.specs.declared.history.Happening.{Happening}
 use Rattle.era_model.specs.declared.history.Happening.TheVariants.{Happened}
 use Rattle.era_model.specs.Commands.{Ask as AskModel, ListSince as ListModel, events_of, answer_of}
@@ -23,17 +23,17 @@ use Rattle.era_model.specs.Legal.{MayHappen}
 use Rattle.era_model.specs.Marking.{is_marked_in, journal_last_era}
 use Rattle.era_model.specs.Marks.{BlockMarks, blocks_of_marks, marks_last_era, rolled, written_since}
 use Rattle.era_model.specs.MarkLaws.{SwitchKeepsMarks}
-use Rattle.era_model.specs.StreamLists.{block_written, era_behind, is_checkpoint, IsListAnswer, IsWrittenSince, ListsNameWritten, NamesWritten}
+use Rattle.era_model.specs.StreamLists.{era_behind, IsListAnswer, IsWrittenSince, ListsNameWritten, NamesWritten}
 use Rattle.era_plan.specs.declared.task.Request.{Request}
 use Rattle.era_plan.specs.declared.task.Request.TheVariants.{Checkpoint, ListSince}
 use Rattle.era_plan.specs.declared.task.Task.{Task}
 use Rattle.era_plan.specs.declared.task.Task.TheVariants.{Ask}
-use Rattle.era_plan.specs.ModelRounds.{model_request, model_task}
+use Rattle.era_plan.specs.ModelRounds.{model_request}
 use Rattle.era_top.specs.declared.outcome.Outcome.{Outcome}
-use Rattle.era_top.specs.declared.outcome.Outcome.TheVariants.{Moved, LastEra, Listed, NoMemory}
+use Rattle.era_top.specs.declared.outcome.Outcome.TheVariants.{Moved, Listed, NoMemory}
 use Rattle.era_top.specs.Outcomes.{era_after, era_after_all, event_count, is_cut_outcome, outcome_events}
-use Rattle.era_top.specs.Runs.{command_of, commands_from, lane_zero, subject_of, FitsTask, FollowJournal, IsJournalOf, IsBetween, MarksWritten}
-use Rattle.era_top.proofs.Journals.{same_command, other_number, other_number_back, at_opening-known, own-event, other-event, answered-kept, answered-push, drawn-more, drawn-last, era_after_all-push}
+use Rattle.era_top.specs.Runs.{command_of, commands_from, lane_zero, subject_of, FitsTask, FollowJournal, MarksWritten}
+use Rattle.era_top.proofs.Journals.{other_number_back, at_opening-known, own-event, other-event, answered-kept, answered-push, drawn-more, drawn-last, era_after_all-push}
 use Rattle.era_top.proofs.MarkSteps.{blocks-same, follow-roll}
 use Rattle.era_top.proofs.RunLoop.{Running, some_cut-push}
 use Rattle.era_top.proofs.StreamSteps.{era_behind-next, era_behind-same, lists-push, stream-quiet, written-none}

@@ -1,6 +1,5 @@
 -- What the journal of a run tells: its replies are those of the outcomes, and its commands are a run.
-use Rattle.std.proofs.Common.{◌≡◌, ◌≢◌, ◌⊎◌, ℕ, ◌+◌, ◌/◌, Bool, true, false, ◌||◌, List, [], ◌∷◌, ◌++◌, length, Option, Some, None, refl, ap, sym, ◌∙◌, subst, ap₂, inl, inr}
-use Rattle.std.specs.List.{list_any}
+use Rattle.std.proofs.Common.{◌≡◌, ◌⊎◌, ℕ, ◌+◌, ◌/◌, Bool, true, false, ◌||◌, List, [], ◌∷◌, ◌++◌, length, Option, Some, None, refl, ap, sym, ◌∙◌, subst, ap₂, inl, inr}
 use Rattle.era_base.specs.Geometry.{place_at}
 use Rattle.era_base.specs.declared.geometry.Geometry.{Geometry}
 use Rattle.era_model.specs.declared.event.Event.{Event}
@@ -9,7 +8,7 @@ use Rattle.era_model.specs.declared.history.Happening.{Happening}
 use Rattle.era_model.specs.declared.reply.Answer.TheVariants.{Fault}
 use Rattle.era_model.specs.declared.reply.Device.TheVariants.{Data}
 use Rattle.era_model.specs.CommandEvents.{AreCheckpointEvents, AreWriteEvents, IsOutcome, IsTriedWrite}
-use Rattle.era_model.specs.Commands.{events_of, answer_of}
+use Rattle.era_model.specs.Commands.{answer_of}
 use Rattle.era_model.specs.History.{at_opening}
 use Rattle.era_model.specs.Journal.{session_opening}
 use Rattle.era_model.specs.SessionRun.{AreListEvents, AreTaskEvents, HaveTheirEvents, place_now, without_places}

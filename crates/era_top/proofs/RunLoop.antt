@@ -1,6 +1,6 @@
 -- A run of commands: where none was run yet, and a write out of range behind the others.
-use Rattle.std.proofs.Common.{◌≡◌, ℕ, ◌+◌, ◌<◌, ◌≤◌, ◌||◌, Bool, true, false, List, [], ◌∷◌, ◌++◌, length, None, refl, ap, sym, ◌∙◌, subst, arith}
-use Rattle.std.specs.Prelude.{max, option_map}
+use Rattle.std.proofs.Common.{◌≡◌, ℕ, ◌+◌, ◌<◌, ◌||◌, Bool, true, false, List, [], ◌∷◌, ◌++◌, length, None, refl, ap, sym, ◌∙◌, subst, arith}
+use Rattle.std.specs.Prelude.{option_map}
 use Rattle.std.proofs.lemmas.List.{length_push}
 use Rattle.std.proofs.lemmas.List.Folds.{list_any-append}
 use Rattle.era_base.specs.declared.geometry.Geometry.{Geometry}
@@ -8,10 +8,10 @@ use Rattle.era_base.specs.CrashModel.{State, IsClean}
 use Rattle.era_base.specs.Geometry.{blocks_of}
 use Rattle.era_model.specs.declared.history.Happening.{Happening}
 use Rattle.era_model.specs.declared.history.Happening.TheVariants.{Opened}
-use Rattle.era_model.specs.Commands.{Command, events_of}
+use Rattle.era_model.specs.Commands.{events_of}
 use Rattle.era_model.specs.History.{next_place, content}
 use Rattle.era_model.specs.Journal.{session_opening}
-use Rattle.era_model.specs.Marks.{BlockMarks, marks_last_era, no_marks}
+use Rattle.era_model.specs.Marks.{BlockMarks, no_marks}
 use Rattle.era_model.specs.StreamLists.{block_written, IsWrittenSince, ListsNameWritten}
 use Rattle.era_model.specs.Writes.{block_bytes}
 use Rattle.era_plan.specs.declared.task.Task.{Task}
@@ -19,8 +19,8 @@ use Rattle.era_plan.specs.declared.task.Task.TheVariants.{Write as WriteTask}
 use Rattle.era_plan.specs.declared.task.Write.{Write}
 use Rattle.era_plan.specs.ModelRounds.{model_task}
 use Rattle.era_top.specs.declared.outcome.Outcome.{Outcome}
-use Rattle.era_top.specs.declared.outcome.Outcome.TheVariants.{OutOfRange, Done, Cut, Moved, LastEra, Listed, NoMemory}
-use Rattle.era_top.specs.Outcomes.{era_after, era_after_all, is_cut_outcome}
+use Rattle.era_top.specs.declared.outcome.Outcome.TheVariants.{OutOfRange}
+use Rattle.era_top.specs.Outcomes.{era_after_all, is_cut_outcome}
 use Rattle.era_top.specs.Runs.{command_of, commands_from, lane_zero, place_of_write, some_cut, FollowJournal, IsJournalOf, IsBetween, MarksWritten}
 use Rattle.era_top.proofs.Journals.{answered-push, drawn-more, era_after_all-push}
 use Rattle.era_top.proofs.RunOrder.{no_marks-valid, opening-legal}

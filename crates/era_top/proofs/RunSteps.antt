@@ -1,15 +1,15 @@
 -- A write that was issued, in a run of commands: acknowledged, or cut.
-use Rattle.std.proofs.Common.{◌≡◌, ℕ, ◌+◌, ◌*◌, ◌%◌, ◌<◌, Bool, true, false, not, ◌&&◌, ◌||◌, ◌==◌, List, [], ◌∷◌, ◌++◌, length, get_or, take, refl, ap, sym, ◌∙◌, subst, arith}
+use Rattle.std.proofs.Common.{◌≡◌, ℕ, ◌+◌, ◌*◌, ◌%◌, ◌<◌, Bool, true, false, ◌&&◌, ◌||◌, ◌==◌, List, [], ◌∷◌, ◌++◌, length, get_or, take, refl, ap, sym, ◌∙◌, subst, arith}
 use Rattle.std.specs.Prelude.{if◌then◌else◌, nat_le, nat_lt}
 use Rattle.std.proofs.lemmas.List.{length_push}
 use Rattle.era_base.specs.declared.geometry.Geometry.{Geometry}
 use Rattle.era_base.specs.Bytes.{splice}
-use Rattle.era_base.specs.CrashModel.{State, IsClean}
+use Rattle.era_base.specs.CrashModel.{State}
 use Rattle.era_base.specs.Faults.{Rose}
 use Rattle.era_model.specs.declared.event.Event.TheVariants.{Done as DoneEvent, Cut as CutEvent}
 use Rattle.era_model.specs.declared.history.Happening.{Happening}
 use Rattle.era_model.specs.History.{in_flight, next_place}
-use Rattle.era_model.specs.Marks.{BlockMarks, has, with_block}
+use Rattle.era_model.specs.Marks.{BlockMarks, with_block}
 use Rattle.era_model.specs.Writes.{block_bytes, is_written_at}
 use Rattle.era_plan.specs.declared.task.Task.{Task}
 use Rattle.era_plan.specs.declared.task.Task.TheVariants.{Write as WriteTask}
@@ -17,8 +17,8 @@ use Rattle.era_plan.specs.declared.task.Write.{Write}
 use Rattle.era_top.specs.declared.outcome.Outcome.{Outcome}
 use Rattle.era_top.specs.declared.outcome.Outcome.TheVariants.{Done, Cut}
 use Rattle.era_top.specs.Outcomes.{era_after_all}
-use Rattle.era_top.specs.Runs.{commands_from, lane_zero, some_cut, IsJournalOf, IsBetween}
-use Rattle.era_top.specs.Steps.{IsPlaced, Marks, IsStored, IsTorn, TellsFault, HaveRun}
+use Rattle.era_top.specs.Runs.{lane_zero, some_cut, IsJournalOf, IsBetween}
+use Rattle.era_top.specs.Steps.{Marks, IsStored, IsTorn, TellsFault, HaveRun}
 use Rattle.era_top.proofs.Journals.{same_command, era_after_all-push}
 use Rattle.era_top.proofs.WriteMarks.{Issue, IsReady, ready-marked, ready-unmarked}
 use Rattle.era_top.proofs.WriteSteps.{IsIssued, ended_with, done-journal, done-between, done-content, cut-journal, cut-counts}

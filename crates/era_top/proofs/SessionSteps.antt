@@ -14,7 +14,6 @@ use Rattle.era_model.specs.Transcript.{Stop, ReadToEnd, SourceFault, open_line, 
 use Rattle.era_model.specs.Writes.{block_bytes}
 use Rattle.era_plan.specs.declared.round.PlanError.{PlanError}
 use Rattle.era_plan.specs.declared.task.Task.{Task}
-use Rattle.era_plan.specs.Grammar.{lines_of}
 use Rattle.era_plan.specs.declared.round.PlanError.TheVariants.{Line as LineError, Source as SourceError, Memory as MemoryError}
 use Rattle.era_plan.specs.Rounds.{Refuses, FailsBehind, HasErrorCause}
 use Rattle.era_top.specs.declared.outcome.Outcome.{Outcome}
@@ -197,6 +196,7 @@ goes-round g contents around given given' tasks outcomes era h result run source
       | true ↦ λ cut. absurd (run.stopped cut empty)
       | false ↦ λ none. take_all (length outcomes) tasks (let e = run.whole none in omega arith)
     ] refl
+
     ends-in-fault : some_cut outcomes ≡ true → EndInFault h (commands_from 0 (take (length outcomes) tasks)) around.disk_faults'
     ends-in-fault cut =
         let is = run.last cut in

@@ -1,5 +1,5 @@
 -- A write that is about to be issued: its block is marked, where it needs a mark.
-use Rattle.std.proofs.Common.{◌≡◌, ℕ, ◌+◌, ◌<◌, ◌≤◌, Bool, true, false, ◌&&◌, ◌||◌, ◌==◌, List, [], ◌∷◌, ◌++◌, length, Some, None, refl, ap, sym, ◌∙◌, subst, arith, inl, inr}
+use Rattle.std.proofs.Common.{◌≡◌, ℕ, ◌+◌, ◌<◌, Bool, true, false, ◌==◌, List, [], ◌∷◌, ◌++◌, length, Some, None, refl, sym, ◌∙◌, subst, arith}
 use Rattle.std.specs.Prelude.{if◌then◌else◌}
 use Rattle.era_base.specs.declared.geometry.Geometry.{Geometry}
 use Rattle.era_base.specs.Geometry.{blocks_of}
@@ -22,8 +22,8 @@ use Rattle.era_plan.specs.declared.task.Task.TheVariants.{Write as WriteTask}
 use Rattle.era_plan.specs.declared.task.Write.{Write}
 use Rattle.era_top.specs.declared.outcome.Outcome.{Outcome}
 use Rattle.era_top.specs.Outcomes.{EventSubject, era_after_all}
-use Rattle.era_top.specs.Runs.{lane_zero, commands_from, place_of_write, AreAnswered, FollowJournal, IsJournalOf, IsBetween, IsFresh}
-use Rattle.era_top.proofs.Journals.{same_number, same_command, other_number, other_number_back, at_opening-known, own-event, other-event, answered-kept, drawn-more, drawn-last}
+use Rattle.era_top.specs.Runs.{lane_zero, commands_from, place_of_write, FollowJournal, IsJournalOf, IsBetween, IsFresh}
+use Rattle.era_top.proofs.Journals.{same_number, same_command, other_number, other_number_back, at_opening-known, own-event, other-event, drawn-more, drawn-last}
 use Rattle.era_top.proofs.MarkSteps.{follow-mark, follow-marked, marked-last}
 
 -- a command stays fresh at an event of another one

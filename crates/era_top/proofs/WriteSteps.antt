@@ -1,5 +1,5 @@
 -- The steps of one write in the journal behind its mark: the write itself, and how it ended.
-use Rattle.std.proofs.Common.{◌≡◌, ℕ, ◌+◌, ◌*◌, ◌/◌, ◌%◌, ◌<◌, ◌≤◌, Bool, true, false, ◌&&◌, ◌||◌, ◌==◌, List, [], ◌∷◌, ◌++◌, length, Option, Some, None, refl, ap, sym, ◌∙◌, subst, arith}
+use Rattle.std.proofs.Common.{◌≡◌, ℕ, ◌+◌, ◌*◌, ◌/◌, ◌%◌, ◌<◌, ◌≤◌, Bool, true, false, ◌==◌, List, [], ◌∷◌, ◌++◌, length, Some, None, refl, ap, sym, ◌∙◌, subst, arith}
 use Rattle.std.specs.Prelude.{option_map, if◌then◌else◌}
 use Rattle.std.proofs.lemmas.List.{length_push}
 use Rattle.era_base.specs.declared.geometry.Geometry.{Geometry}
@@ -16,7 +16,6 @@ use Rattle.era_model.specs.Counts.{FaultyDisk, CountsAreWithin}
 use Rattle.era_model.specs.Events.{drawn_by, is_go_of}
 use Rattle.era_model.specs.History.{at_opening, blocks_at, in_flight, next_place, content}
 use Rattle.era_model.specs.Journal.{session_opening}
-use Rattle.era_model.specs.Legal.{IsLegal}
 use Rattle.era_model.specs.Marks.{BlockMarks}
 use Rattle.era_model.specs.SessionRun.{AreAllDrawnBy}
 use Rattle.era_model.specs.StreamLists.{block_written, ListsNameWritten}
@@ -26,9 +25,9 @@ use Rattle.era_plan.specs.ModelRounds.{model_task}
 use Rattle.era_plan.proofs.ModelSteps.{commands_from-push}
 use Rattle.era_top.specs.declared.outcome.Outcome.{Outcome}
 use Rattle.era_top.specs.declared.outcome.Outcome.TheVariants.{Done, Cut}
-use Rattle.era_top.specs.Outcomes.{EventSubject, ended_events, era_after, era_after_all, event_count, is_issued, outcome_events}
-use Rattle.era_top.specs.Runs.{command_of, commands_from, lane_zero, place_of_write, subject_of, subject_of_write, AreAnswered, FollowJournal, IsJournalOf, IsBetween, IsFresh, MarksWritten}
-use Rattle.era_top.proofs.Journals.{same_number, same_command, other_number, other_number_back, at_opening-known, own-event, other-event, answered-kept, answered-push, drawn-last, era_after_all-push}
+use Rattle.era_top.specs.Outcomes.{EventSubject, ended_events, era_after_all, event_count, is_issued, outcome_events}
+use Rattle.era_top.specs.Runs.{command_of, commands_from, lane_zero, place_of_write, subject_of, subject_of_write, AreAnswered, IsJournalOf, IsBetween, MarksWritten}
+use Rattle.era_top.proofs.Journals.{same_command, other_number, other_number_back, at_opening-known, own-event, other-event, answered-kept, answered-push, drawn-last, era_after_all-push}
 use Rattle.era_top.proofs.StreamSteps.{lists-push, stream-write}
 use Rattle.era_top.proofs.WriteMarks.{Issue, IsReady, fresh-after, go_place, issue_at, mark_events}
 

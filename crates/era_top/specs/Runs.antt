@@ -4,7 +4,6 @@ use Rattle.std.specs.List.{list_any}
 use Rattle.era_base.specs.declared.geometry.Geometry.{Geometry}
 use Rattle.era_base.specs.declared.ids.CmdId.{CmdId}
 use Rattle.era_base.specs.Geometry.{blocks_of, place_at}
-use Rattle.era_model.specs.declared.event.Event.{Event}
 use Rattle.era_model.specs.declared.history.Happening.{Happening}
 use Rattle.era_model.specs.Changed.{IsCrashContent}
 use Rattle.era_model.specs.Commands.{Command, events_of}

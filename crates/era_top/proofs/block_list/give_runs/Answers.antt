@@ -1,4 +1,4 @@
-use Rattle.std.proofs.Common.{◌≡◌, ◌∷◌, subst, sym}
+use Rattle.std.proofs.Common.{subst, sym}
 use Rattle.era_base.specs.Streams.{GivesFront, GivesTo}
 use Rattle.era_model.specs.Transcript.{more_runs_text, run_text, runs_text}
 use Rattle.era_top.proofs.Gives.{gives-not, gives-then}

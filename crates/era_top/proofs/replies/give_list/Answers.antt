@@ -1,4 +1,4 @@
-use Rattle.std.proofs.Common.{[], ◌∷◌, ◌++◌, subst, sym}
+use Rattle.std.proofs.Common.{[], ◌++◌, subst, sym}
 use Rattle.std.specs.Prelude.{codes}
 use Rattle.std.specs.Fmt.{decimal}
 use Rattle.era_base.specs.Streams.{GivesFront, GivesTo}
