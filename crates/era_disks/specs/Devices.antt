@@ -6,6 +6,7 @@ use Rattle.era_base.specs.Bay.{Loan}
 use Rattle.era_disks.specs.Rows.{sector_bytes}
 use Rattle.era_disks.specs.MemDisk.{place_of, sectors_of}
 use Rattle.era_disks.specs.declared.device.Device.{Device}
+use Rattle.era_disks.specs.declared.disk_calls.DiskCalls.{DiskCalls}
 use Rattle.era_disks.specs.declared.mem_disk.MemDisk.{MemDisk}
 
 -- Whether a device has this name.
@@ -26,10 +27,10 @@ abbrev pub device_size : Option Device → Option ℕ
 device_size None = None
 device_size (Some device) = Some (length device.state.rows.items)
 
--- The numbers of the writes that fail of each disk of a device that is lent.
-abbrev pub device_failing : Option Device → Option (List ℕ)
-device_failing None = None
-device_failing (Some device) = Some device.failing.items
+-- The calls that fail of each disk of a device that is lent.
+abbrev pub device_calls : Option Device → Option DiskCalls
+device_calls None = None
+device_calls (Some device) = Some device.calls
 
 -- How many sectors a device has, and 0 where there is no device.
 abbrev pub device_length : Option Device → ℕ

@@ -1,3 +1,6 @@
+pub mod Calls
+pub mod DiskCalls
+pub mod BayCalls
 pub mod Devices
 pub mod Loans
 pub mod MemBay

@@ -1,9 +1,12 @@
 -- What a bay in memory tells.
-use Rattle.std.specs.Prelude.{ℕ, ◌+◌, ◌≤◌, List, length, Option}
+use Rattle.std.specs.Prelude.{◌≡◌, ◌⊎◌, ℕ, ◌+◌, ◌≤◌, List, length, Option, Some}
 use Rattle.era_base.specs.Bay.{Loan, IsFree}
 use Rattle.era_disks.specs.Loans.{loans_of}
-use Rattle.era_disks.specs.Devices.{device_of, device_reads, device_size, device_failing, IsFoundAt}
-use Rattle.era_disks.specs.MemDisk.{place_of, sectors_of}
+use Rattle.era_disks.specs.Devices.{device_of, device_reads, device_size, device_calls, IsFoundAt}
+use Rattle.era_disks.specs.Calls.{Calls, NextFails}
+use Rattle.era_disks.specs.DiskCalls.{restarted_calls}
+use Rattle.era_disks.specs.MemDisk.{place_of, sectors_of, faults_of, starved_of}
+use Rattle.era_disks.specs.declared.disk_calls.DiskCalls.{DiskCalls}
 use Rattle.era_disks.specs.declared.mem_disk.MemDisk.{MemDisk}
 use Rattle.era_disks.specs.declared.mem_bay.MemBay.{MemBay}
 
@@ -23,9 +26,15 @@ bay_loans bay = loans_of bay.loans.entries.items
 abbrev pub bay_faults : MemBay → ℕ
 bay_faults bay = bay.faults
 
--- The numbers of the writes that fail of each disk of a device that is lent.
-abbrev pub failing_of : MemBay → List ℕ → Option (List ℕ)
-failing_of bay name = device_failing (device_of bay.devices.items name)
+-- The calls that fail of each disk of a device that is lent.
+abbrev pub calls_of : MemBay → List ℕ → Option DiskCalls
+calls_of bay name = device_calls (device_of bay.devices.items name)
+
+-- A disk that was just lent: the calls of its device fail and none was begun, and it has not failed.
+pub record IsFresh (bay : MemBay) (name : List ℕ) (disk : MemDisk) : Type 0 where
+  pub calls : (calls : DiskCalls) → calls_of bay name ≡ Some calls → disk.calls ≡ restarted_calls calls
+  pub faults : faults_of disk ≡ 0
+  pub starved : starved_of disk ≡ 0
 
 -- So many sectors from a sector on lie on the device at an index of the bay's devices.
 pub record LiesAt (bay : MemBay) (name : List ℕ) (index first sectors : ℕ) : Type 0 where
@@ -35,3 +44,8 @@ pub record LiesAt (bay : MemBay) (name : List ℕ) (index first sectors : ℕ) :
 -- A sector of the range of the device is lent.
 abbrev pub IsRefusedAt : MemBay → List ℕ → ℕ → ℕ → Type 0
 IsRefusedAt bay name first sectors = IsFree place_of sectors_of (bay_loans bay) name first sectors → ⊥
+
+-- The next opening of this kind fails, or the bay doesn't hold the device, or a sector of a range of it is lent.
+abbrev pub WontLend : Calls → MemBay → List ℕ → ℕ → (ℕ → ℕ) → Type 0
+WontLend calls bay name first sectors =
+    NextFails calls ⊎ ((size : ℕ) → sizes_of bay name ≡ Some size → IsRefusedAt bay name first (sectors size))

@@ -1,7 +1,8 @@
 -- What a disk in memory is.
-use Rattle.std.specs.Prelude.{◌≡◌, ℕ, ◌+◌, ◌-◌, ◌*◌, ◌^◌, ◌<◌, ◌≤◌, min, true, false, List, [], ◌∷◌, ◌++◌, length, replicate, Contains}
+use Rattle.std.specs.Prelude.{◌≡◌, ℕ, ◌+◌, ◌*◌, ◌<◌, ◌≤◌, true, false, List, [], ◌∷◌, ◌++◌, length, replicate, Result, MatchResult}
 use Rattle.era_base.specs.CrashModel.{State, History, is_pending}
 use Rattle.era_base.specs.Disk.{Place}
+use Rattle.era_disks.specs.Calls.{NextFails, one_begun, one_more, CountsFailure}
 use Rattle.era_disks.specs.Rows.{bytes_of}
 use Rattle.era_disks.specs.declared.mem_state.MemState.{MemState}
 use Rattle.era_disks.specs.declared.past.Past.{Past}
@@ -39,7 +40,7 @@ starved_of disk = disk.starved
 
 -- The next write of the disk is one of those that fail.
 abbrev pub IsNamed : MemDisk → Type 0
-IsNamed disk = Contains disk.failing.items disk.writes
+IsNamed disk = NextFails disk.calls.writes
 
 -- The sectors of so many bytes from a sector on are pending.
 abbrev pub IsMarked : ℕ → ℕ → State → Type 0
@@ -49,16 +50,19 @@ IsMarked first count state = (offset : ℕ) → first * 512 ≤ offset → offse
 abbrev pub blank_state : ℕ → State
 blank_state sectors = record { seen = replicate (sectors * 512) 0; pending = replicate sectors false }
 
--- The disk's list of failing writes stays, and no write was begun.
-pub record NoWrite (old new : MemDisk) : Type 0 where
-  pub failing : new.failing.items ≡ old.failing.items
-  pub writes : new.writes ≡ old.writes
-
--- The disk's list of failing writes stays, and one write was begun.
-pub record OneWrite (old new : MemDisk) : Type 0 where
-  pub failing : new.failing.items ≡ old.failing.items
-  pub writes : new.writes ≡ min (old.writes + 1) (2 ^ 64 - 1)
+-- The sectors of so many bytes from a sector on are pending, and nothing else has changed.
+pub record OnlyMarks (first count : ℕ) (before after : State) : Type 0 where
+  pub seen : after.seen ≡ before.seen
+  pub marked : IsMarked first count after
+  pub others : (offset : ℕ) → (first * 512 ≤ offset → first * 512 + count ≤ offset) → is_pending after offset ≡ is_pending before offset
 
 -- Memory was not refused.
 abbrev pub IsFed : MemDisk → MemDisk → Type 0
 IsFed old new = new.starved ≡ old.starved
+
+-- One write was begun, a failure is counted, and what was refused memory is counted apart: neither a write that answered nor one that is listed was.
+pub record CountsWrite {T E : Type 0} (old new : MemDisk) (result : Result T E) : Type 0 where
+  pub calls : new.calls ≡ record old.calls { writes = one_begun old.calls.writes }
+  pub faults : CountsFailure (faults_of old) (faults_of new) result
+  pub listed : IsNamed old → IsFed old new
+  pub unlisted : (IsNamed old → ⊥) → MatchResult result (λ _. IsFed old new) (λ _. new.starved ≡ one_more old.starved)

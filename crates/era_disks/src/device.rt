@@ -2,22 +2,24 @@
 
 ghost use Rattle.std.specs.Prelude.{◌≡◌, ◌≢◌, [], ◌∷◌, ◌++◌, ◌+◌, ◌≤◌, length, take, drop, position, Some, None, IfSome, IfNone, IfOk, OnOk};
 ghost use Rattle.era_disks.specs.Devices.{IsFoundAt, device_of, has_name};
+ghost use Rattle.era_disks.specs.DiskCalls.{no_disk_calls, also_failing_call, restarted_calls};
 ghost use Rattle.era_disks.specs.MemDisk.{place_of, sectors_of, faults_of, starved_of};
 ghost use Rattle.era_disks.specs.Rows.{bytes_of};
 ghost use borrow.Rule.Slice.PartMut.{put_mid};
 
+use crate::disk_calls::{DiskCall, DiskCalls};
 use crate::mem_disk::MemDisk;
 use crate::mem_state::MemState;
 use crate::rows::{append_row, copy_rows};
 use era_base::{Bytes, Memory, Name};
 use std::alloc::Global;
 
-/// A device by name: its sectors, and the numbers of the writes that fail of each disk of it that is lent.
+/// A device by name: its sectors, and the calls that fail of each disk of it that is lent.
 #[derive(Drop)]
 pub struct Device {
     pub name: Name,
     pub state: MemState,
-    pub failing: Vec<u64>,
+    pub calls: DiskCalls,
 }
 
 impl Device {
@@ -27,17 +29,17 @@ impl Device {
         ensures place { IfOk result (λ disk. place_of disk ≡ record { device = self.now.name; first = first }) }
         ensures rows { IfOk result (λ disk. disk.state.rows.items ≡ take sectors (drop first self.now.state.rows.items)) }
         ensures size { IfOk result (λ disk. sectors_of disk ≡ sectors) }
-        ensures failing { IfOk result (λ disk. disk.failing.items ≡ self.now.failing.items) }
-        ensures fresh { IfOk result (λ disk. (faults_of disk ≡ 0) × (starved_of disk ≡ 0) × (disk.writes ≡ 0)) }
+        ensures calls { IfOk result (λ disk. disk.calls ≡ restarted_calls self.now.calls) }
+        ensures fresh { IfOk result (λ disk. (faults_of disk ≡ 0) × (starved_of disk ≡ 0)) }
     {
         let from = first as usize;
         let to = from + sectors as usize;
         let device = Name::from_text(alloc, self.name.as_str())?;
         let rows = copy_rows(alloc, &self.state.rows[from..to])?;
         let pending = Vec::from_slice(alloc, &self.state.pending[from..to])?;
-        let failing = Vec::from_slice(alloc, self.failing.as_slice())?;
+        let calls = self.calls.restart(alloc)?;
         let state = MemState { rows, pending };
-        Ok(MemDisk::of(alloc, device, first, state, failing))
+        Ok(MemDisk::of(alloc, device, first, state, calls))
     }
 
     /// The number of sectors.
@@ -47,14 +49,13 @@ impl Device {
         self.state.rows.len() as u64
     }
 
-    /// From now on the write with this number fails, until a disk is put back.
-    pub fn fail_write(&mut self, number: u64) -> Result<(), Memory>
-        ensures ok { OnOk result (self.new.failing.items ≡ self.old.failing.items ++ number ∷ []) }
+    /// From now on the call of this kind with this number fails of each disk that is lent, until a disk is put back.
+    pub fn fail(&mut self, call: DiskCall, number: u64) -> Result<(), Memory>
+        ensures ok { OnOk result (self.new.calls ≡ also_failing_call call number self.old.calls) }
         ensures name { self.new.name ≡ self.old.name }
         ensures rows { self.new.state.rows.items ≡ self.old.state.rows.items }
     {
-        self.failing.push(number)?;
-        Ok(())
+        self.calls.fail(call, number)
     }
 
     /// All bytes of the device.
@@ -69,17 +70,18 @@ impl Device {
         Ok(Bytes::from_vec(bytes))
     }
 
-    /// Takes the sectors of a lent disk back, and forgets the writes that fail. It takes no memory.
+    /// Takes the sectors of a lent disk back, and forgets the calls that fail. It takes no memory.
     pub fn take_back(&mut self, first: usize, mut state: MemState)
         requires { first + length state.rows.items ≤ length self.old.state.rows.items }
         ensures name { self.new.name ≡ self.old.name }
+        ensures calls { self.new.calls ≡ no_disk_calls }
         ensures rows { self.new.state.rows.items
             ≡ put_mid first (length state.rows.items) self.old.state.rows.items state.rows.items }
     {
         let sectors = state.rows.len();
         self.state.rows[first..first + sectors].swap_with_slice(state.rows.as_mut_slice());
         self.state.pending[first..first + sectors].copy_from_slice(state.pending.as_slice());
-        self.failing.clear();
+        self.calls.clear();
     }
 }
 

@@ -1,7 +1,11 @@
 //! Disks, bays and streams in memory, and the pace that never holds.
 #![tactic(auto)]
 
+mod bay_calls;
+mod call_list;
 mod device;
+mod disk_calls;
+mod failing_give;
 mod fault_count;
 mod file_bay;
 mod file_disk;
@@ -20,6 +24,10 @@ mod std_streams;
 mod text_sink;
 mod text_source;
 
+pub use bay_calls::{BayCall, BayCalls};
+pub use call_list::CallList;
+pub use disk_calls::{DiskCall, DiskCalls};
+pub use failing_give::FailingGive;
 pub use fault_count::FaultCount;
 pub use file_bay::FileBay;
 pub use file_disk::FileDisk;

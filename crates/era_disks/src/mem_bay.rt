@@ -3,40 +3,49 @@
 ghost use Rattle.era_disks.specs.Loans.{loans_of};
 ghost use Rattle.era_disks.specs.Devices.{LieWithin};
 
+use crate::bay_calls::{BayCall, BayCalls};
 use crate::device::{Device, find_device};
+use crate::disk_calls::{DiskCall, DiskCalls};
 use crate::loans::Loans;
 use crate::mem_disk::MemDisk;
 use crate::mem_state::MemState;
 use era_base::{Bay, BayError, Bytes, Disk, Memory, Name};
 use std::alloc::Global;
 
-/// Devices in memory, by name, and the loans of them.
+/// Devices in memory, by name, the loans of them, and the calls of the bay that fail.
 #[derive(Drop)]
 pub struct MemBay {
     alloc: Global,
     devices: Vec<Device>,
     loans: Loans<MemDisk>,
+    calls: BayCalls,
     faults: u64,
     ghost within: { LieWithin devices.items (loans_of loans.entries.items) },
 }
 
 impl MemBay {
-    ghost use Rattle.std.specs.Prelude.{◌≡◌, ℕ, List, ◌+◌, ◌*◌, ◌≤◌, [], ◌∷◌, ◌++◌, length, take, drop, replicate, Some, None, IfOk, IfSome, IfNone, OnOk, OnErr, IsErrOf};
+    ghost use Rattle.std.specs.Prelude.{◌≡◌, ℕ, List, ◌+◌, ◌*◌, ◌≤◌, [], ◌∷◌, ◌++◌, length, take, drop, replicate, Some, None, IfOk, IfSome, IfNone, OnOk, OnErr, IsErrOf, ◌↔◌};
     ghost use Rattle.era_base.specs.Bay.{new_loan, HasContent, SameReadsBut, ReadsAs, NowReadsAs, IsFree, IsOut, EndsLoan, HasBayCause};
     ghost use Rattle.era_disks.specs.MemDisk.{place_of, sectors_of, history_of};
-    ghost use Rattle.era_disks.specs.MemBay.{sizes_of, reads_of, bay_loans, bay_faults, failing_of, LiesAt};
+    ghost use Rattle.era_disks.specs.Calls.{one_more};
+    ghost use Rattle.era_disks.specs.BayCalls.{no_bay_calls, also_failing_at};
+    ghost use Rattle.era_disks.specs.DiskCalls.{also_failing_call, restarted_calls};
+    ghost use Rattle.era_disks.specs.declared.disk_calls.DiskCalls.{DiskCalls};
+    ghost use Rattle.era_disks.specs.MemBay.{sizes_of, reads_of, bay_loans, bay_faults, calls_of, IsFresh, IsRefusedAt, LiesAt};
     ghost use Rattle.era_disks.specs.Devices.{IsFoundAt, device_of, device_length};
 
-    /// A bay that holds no device. It takes no memory.
+    /// A bay that holds no device, and of which no call fails. It takes no memory.
     pub fn new(alloc: Global) -> MemBay
         ensures none { (name : List ℕ) → sizes_of result name ≡ None }
         ensures loans { bay_loans result ≡ [] }
         ensures faults { bay_faults result ≡ 0 }
+        ensures calls { result.calls ≡ no_bay_calls }
     {
         MemBay {
             alloc,
             devices: Vec::new(alloc),
             loans: Loans::new(alloc),
+            calls: BayCalls::new(alloc),
             faults: 0,
         }
     }
@@ -54,7 +63,7 @@ impl MemBay {
         let device = Device {
             name: Name::from_text(self.alloc, name)?,
             state: MemState::new(self.alloc, sectors as usize)?,
-            failing: Vec::new(self.alloc),
+            calls: DiskCalls::new(self.alloc),
         };
         self.devices.push(device)?;
         Ok(())
@@ -72,19 +81,48 @@ impl MemBay {
         }
     }
 
-    /// From now on, until a disk of the device is put back, the write with this number fails in each disk of it that
-    /// is lent. The writes of a disk are counted from 0. A name that the bay doesn't hold changes nothing.
-    pub fn fail_write(&mut self, name: &str, number: u64) -> Result<(), Memory>
-        ensures listed { (failing : List ℕ) → failing_of self.old name.now ≡ Some failing
-            → OnOk result (failing_of self.new name.now ≡ Some (failing ++ number ∷ [])) }
+    /// From now on the call of the bay of this kind with this number fails. Each kind is counted from 0.
+    pub fn fail(&mut self, call: BayCall, number: u64) -> Result<(), Memory>
+        ensures ok { OnOk result (self.new ≡ record self.old { calls = also_failing_at call number self.old.calls }) }
+        ensures err { OnErr result (self.new ≡ self.old) }
+    {
+        self.calls.fail(call, number)
+    }
+
+    /// From now on, until a disk of the device is put back, the call of this kind with this number fails in each disk
+    /// of it that is lent. Each kind of calls of a disk is counted from 0. A name that the bay doesn't hold changes nothing.
+    pub fn fail_disk(&mut self, name: &str, call: DiskCall, number: u64) -> Result<(), Memory>
+        ensures listed { (calls : DiskCalls) → calls_of self.old name.now ≡ Some calls
+            → OnOk result (calls_of self.new name.now ≡ Some (also_failing_call call number calls)) }
         ensures sizes { (other : List ℕ) → sizes_of self.new other ≡ sizes_of self.old other }
         ensures reads { (other : List ℕ) (sector : ℕ) → reads_of self.new other sector ≡ reads_of self.old other sector }
         ensures rest { (bay_loans self.new ≡ bay_loans self.old) × (bay_faults self.new ≡ bay_faults self.old) }
+        ensures calls { self.new.calls ≡ self.old.calls }
     {
         if let Some(index) = find_device(self.devices.as_slice(), name) {
-            self.devices[index].fail_write(number)?;
+            self.devices[index].fail(call, number)?;
         }
         Ok(())
+    }
+
+    /// The number of sectors of a device.
+    fn size_of(&self, name: &str) -> Option<u64>
+        ensures { result ≡ sizes_of self.now name.now }
+    {
+        match find_device(self.devices.as_slice(), name) {
+            Some(index) => Some(self.devices[index].sectors()),
+            None => None,
+        }
+    }
+
+    /// One more failure.
+    fn refuse<T>(&mut self) -> Result<T, BayError>
+        ensures failed { IsErrOf result BayError.Failed }
+        ensures cause { HasBayCause (bay_faults self.old) (bay_faults self.new) result }
+        ensures counted { self.new ≡ record self.old { faults = one_more self.old.faults } }
+    {
+        self.faults = self.faults.saturating_add(1);
+        Err(BayError::Failed)
     }
 
     /// Lends a part of the device at an index.
@@ -100,9 +138,10 @@ impl MemBay {
         ensures size { IfOk result (λ disk. sectors_of disk ≡ sectors) }
         ensures rows { (found : IsFoundAt self.old.devices.items name.now index) → IfOk result (λ disk.
             disk.state.rows.items ≡ take sectors (drop first found.device.state.rows.items)) }
+        ensures fresh { IfOk result (λ disk. IsFresh self.old name.now disk) }
         ensures loans { IfOk result (λ disk. bay_loans self.new ≡ bay_loans self.old ++ new_loan disk ∷ []) }
         ensures err { OnErr result (bay_loans self.new ≡ bay_loans self.old) }
-        ensures rest { (self.new.devices ≡ self.old.devices) × (bay_faults self.new ≡ bay_faults self.old) }
+        ensures rest { (self.new.devices ≡ self.old.devices) × (bay_faults self.new ≡ bay_faults self.old) × (self.new.calls ≡ self.old.calls) }
     {
         self.loans.reserve()?;
         let device = Name::from_text(self.alloc, name)?;
@@ -120,15 +159,16 @@ impl MemBay {
         sectors: u64,
     ) -> Result<MemDisk, BayError>
         requires { LiesAt self.old name.now index first sectors }
-        ensures place { IfOk result (λ disk. (place_of disk ≡ record { device = name.now; first = first }) × (sectors_of disk ≡ sectors)) }
+        ensures place { IfOk result (λ disk. (place_of disk ≡ record { device = name.now; first = first })
+            × (sectors_of disk ≡ sectors) × IsFresh self.old name.now disk) }
         ensures content { IfOk result (λ disk. ReadsAs (reads_of self.old) name.now first sectors (history_of disk).now) }
         ensures free { OnOk result (IsFree place_of sectors_of (bay_loans self.old) name.now first sectors) }
         ensures loans { IfOk result (λ disk. bay_loans self.new ≡ bay_loans self.old ++ new_loan disk ∷ []) }
         ensures refused { OnErr result (bay_loans self.new ≡ bay_loans self.old) }
-        ensures devices { self.new.devices ≡ self.old.devices }
-        ensures cause { HasBayCause (bay_faults self.old) (bay_faults self.new) result }
-        ensures why { IsErrOf result BayError.Failed
-            → IsFree place_of sectors_of (bay_loans self.old) name.now first sectors → ⊥ }
+        ensures rest { (self.new.devices ≡ self.old.devices) × (self.new.calls ≡ self.old.calls) }
+        ensures cause { HasBayCause (bay_faults self.old) (bay_faults self.new) result
+            × (IsErrOf result BayError.Failed → bay_faults self.new ≡ one_more (bay_faults self.old)) }
+        ensures why { IsErrOf result BayError.Failed ↔ IsRefusedAt self.old name.now first sectors }
     {
         if self.loans.is_free(name, first, sectors) {
             match self.lend(index, name, first, sectors) {
@@ -136,8 +176,7 @@ impl MemBay {
                 Err(Memory) => Err(BayError::Memory),
             }
         } else {
-            self.faults = self.faults.saturating_add(1);
-            Err(BayError::Failed)
+            self.refuse()
         }
     }
 
@@ -145,7 +184,7 @@ impl MemBay {
     fn end_loan(&mut self, disk: &MemDisk)
         requires { (index : ℕ) × IsOut place_of sectors_of (bay_loans self.old) (place_of disk.now) (sectors_of disk.now) index }
         ensures loans { EndsLoan place_of sectors_of disk.now (bay_loans self.old) (bay_loans self.new) }
-        ensures rest { (self.new.devices ≡ self.old.devices) × (bay_faults self.new ≡ bay_faults self.old) }
+        ensures rest { (self.new.devices ≡ self.old.devices) × (bay_faults self.new ≡ bay_faults self.old) × (self.new.calls ≡ self.old.calls) }
     {
         self.loans.end(disk.device.as_str(), disk.first, disk);
     }
@@ -156,7 +195,7 @@ impl MemBay {
         ensures content { NowReadsAs (reads_of self.new) disk.device disk.first (sectors_of disk) (history_of disk).now }
         ensures others { SameReadsBut disk.device disk.first (sectors_of disk) (reads_of self.old) (reads_of self.new) }
         ensures sizes { (name : List ℕ) → sizes_of self.new name ≡ sizes_of self.old name }
-        ensures rest { (bay_loans self.new ≡ bay_loans self.old) × (bay_faults self.new ≡ bay_faults self.old) }
+        ensures rest { (bay_loans self.new ≡ bay_loans self.old) × (bay_faults self.new ≡ bay_faults self.old) × (self.new.calls ≡ self.old.calls) }
     {
         let MemDisk {
             device,
@@ -172,10 +211,11 @@ impl MemBay {
 }
 
 impl Bay for MemBay {
-    ghost use Rattle.std.specs.Prelude.{◌≡◌, ℕ, ◌+◌, ◌≤◌, [], ◌∷◌, ◌++◌, Some, None, IfOk, OnOk, OnErr, IsErrOf};
+    ghost use Rattle.std.specs.Prelude.{◌≡◌, ◌↔◌, ◌⊎◌, ℕ, ◌+◌, ◌≤◌, [], ◌∷◌, ◌++◌, Some, None, IfOk, OnOk, OnErr, IsErrOf};
     ghost use Rattle.era_base.specs.Bay.{new_loan, ReadsAs, SameReads, KeepsSizes, IsFree, HasBayCause};
+    ghost use Rattle.era_disks.specs.Calls.{NextFails, one_begun, one_more};
     ghost use Rattle.era_disks.specs.MemDisk.{place_of, sectors_of, history_of};
-    ghost use Rattle.era_disks.specs.MemBay.{sizes_of, reads_of, bay_loans, bay_faults, IsRefusedAt};
+    ghost use Rattle.era_disks.specs.MemBay.{sizes_of, reads_of, bay_loans, bay_faults, IsFresh, WontLend};
 
     type D = MemDisk;
 
@@ -192,61 +232,66 @@ impl Bay for MemBay {
         ensures sizes { KeepsSizes (sizes_of self.old) (sizes_of self.new) }
         ensures reads { SameReads (reads_of self.old) (reads_of self.new) }
         ensures loans { bay_loans self.new ≡ bay_loans self.old }
-        ensures cause { HasBayCause (bay_faults self.old) (bay_faults self.new) result }
-        ensures refused { OnErr result (sizes_of self.old name.now ≡ None) }
+        ensures cause { HasBayCause (bay_faults self.old) (bay_faults self.new) result
+            × (IsErrOf result BayError.Failed → bay_faults self.new ≡ one_more (bay_faults self.old)) }
+        ensures refused { IsErrOf result BayError.Failed ↔ (NextFails self.old.calls.sizes ⊎ (sizes_of self.old name.now ≡ None)) }
         ensures never { IsErrOf result BayError.Memory → ⊥ }
+        ensures calls { self.new.calls ≡ record self.old.calls { sizes = one_begun self.old.calls.sizes } }
     {
-        match find_device(self.devices.as_slice(), name) {
-            Some(index) => Ok(self.devices[index].sectors()),
-            None => {
-                self.faults = self.faults.saturating_add(1);
-                Err(BayError::Failed)
-            }
+        if self.calls.sizes.begin() {
+            return self.refuse();
+        }
+        match self.size_of(name) {
+            Some(size) => Ok(size),
+            None => self.refuse(),
         }
     }
 
     fn open_meta(&mut self, name: &str) -> Result<MemDisk, BayError>
-        ensures lent { IfOk result (λ disk. place_of disk ≡ record { device = name.now; first = 0 }) }
+        ensures lent { IfOk result (λ disk. (place_of disk ≡ record { device = name.now; first = 0 }) × IsFresh self.old name.now disk) }
         ensures whole { IfOk result (λ disk. sizes_of self.new name.now ≡ Some (sectors_of disk)) }
         ensures content { IfOk result (λ disk. ReadsAs (reads_of self.old) name.now 0 (sectors_of disk) (history_of disk).now) }
         ensures free { IfOk result (λ disk. IsFree place_of sectors_of (bay_loans self.old) name.now 0 (sectors_of disk)) }
         ensures loans { IfOk result (λ disk. bay_loans self.new ≡ bay_loans self.old ++ new_loan disk ∷ []) }
         ensures refused { OnErr result (bay_loans self.new ≡ bay_loans self.old)
-            × (IsErrOf result BayError.Failed
-            → (size : ℕ) → sizes_of self.old name.now ≡ Some size → IsRefusedAt self.old name.now 0 size) }
-        ensures same { KeepsSizes (sizes_of self.old) (sizes_of self.new) × SameReads (reads_of self.old) (reads_of self.new) }
-        ensures cause { HasBayCause (bay_faults self.old) (bay_faults self.new) result }
+            × (IsErrOf result BayError.Failed ↔ WontLend self.old.calls.metas self.old name.now 0 (λ size. size)) }
+        ensures same { KeepsSizes (sizes_of self.old) (sizes_of self.new) × SameReads (reads_of self.old) (reads_of self.new)
+            × (self.new.calls ≡ record self.old.calls { metas = one_begun self.old.calls.metas }) }
+        ensures cause { HasBayCause (bay_faults self.old) (bay_faults self.new) result
+            × (IsErrOf result BayError.Failed → bay_faults self.new ≡ one_more (bay_faults self.old)) }
     {
+        if self.calls.metas.begin() {
+            return self.refuse();
+        }
         match find_device(self.devices.as_slice(), name) {
             Some(index) => {
                 let sectors = self.devices[index].sectors();
                 self.open_at(index, name, 0, sectors)
             }
-            None => {
-                self.faults = self.faults.saturating_add(1);
-                Err(BayError::Failed)
-            }
+            None => self.refuse(),
         }
     }
 
     fn open_part(&mut self, name: &str, first: u64, sectors: u64) -> Result<MemDisk, BayError>
         requires { (size : ℕ) → sizes_of self.old name.now ≡ Some size → first + sectors ≤ size }
-        ensures lent { IfOk result (λ disk. (place_of disk ≡ record { device = name.now; first = first }) × (sectors_of disk ≡ sectors)) }
+        ensures lent { IfOk result (λ disk. (place_of disk ≡ record { device = name.now; first = first })
+            × (sectors_of disk ≡ sectors) × IsFresh self.old name.now disk) }
         ensures content { IfOk result (λ disk. ReadsAs (reads_of self.old) name.now first sectors (history_of disk).now) }
         ensures free { OnOk result (IsFree place_of sectors_of (bay_loans self.old) name.now first sectors) }
         ensures loans { IfOk result (λ disk. bay_loans self.new ≡ bay_loans self.old ++ new_loan disk ∷ []) }
         ensures refused { OnErr result (bay_loans self.new ≡ bay_loans self.old)
-            × (IsErrOf result BayError.Failed
-            → (size : ℕ) → sizes_of self.old name.now ≡ Some size → IsRefusedAt self.old name.now first sectors) }
-        ensures same { KeepsSizes (sizes_of self.old) (sizes_of self.new) × SameReads (reads_of self.old) (reads_of self.new) }
-        ensures cause { HasBayCause (bay_faults self.old) (bay_faults self.new) result }
+            × (IsErrOf result BayError.Failed ↔ WontLend self.old.calls.parts self.old name.now first (λ _. sectors)) }
+        ensures same { KeepsSizes (sizes_of self.old) (sizes_of self.new) × SameReads (reads_of self.old) (reads_of self.new)
+            × (self.new.calls ≡ record self.old.calls { parts = one_begun self.old.calls.parts }) }
+        ensures cause { HasBayCause (bay_faults self.old) (bay_faults self.new) result
+            × (IsErrOf result BayError.Failed → bay_faults self.new ≡ one_more (bay_faults self.old)) }
     {
+        if self.calls.parts.begin() {
+            return self.refuse();
+        }
         match find_device(self.devices.as_slice(), name) {
             Some(index) => self.open_at(index, name, first, sectors),
-            None => {
-                self.faults = self.faults.saturating_add(1);
-                Err(BayError::Failed)
-            }
+            None => self.refuse(),
         }
     }
 

@@ -1,18 +1,21 @@
 //! A disk in memory. What was never written takes no data.
 
-ghost use Rattle.std.specs.Prelude.{◌≡◌, ◌↔◌, ◌⊎◌, ℕ, ◌*◌, true, [], ◌∷◌, ◌++◌, length, Contains, IsTrue, IfOk, IsOk, IsErr, OnOk, OnErr};
+ghost use Rattle.std.specs.Prelude.{◌≡◌, ◌↔◌, ◌⊎◌, ℕ, ◌*◌, true, [], length, IfOk, IsErr, OnOk, OnErr};
 ghost use Rattle.era_base.specs.CrashModel.{LiesOn, IsWhole};
 ghost use Rattle.era_base.specs.Disk.{Reads, Writes, Syncs};
 ghost use Rattle.era_base.specs.Faults.{HasCause, Rose};
+ghost use Rattle.era_disks.specs.Calls.{NextFails, one_begun, one_more, CountsFailure};
+ghost use Rattle.era_disks.specs.DiskCalls.{no_disk_calls, also_failing_call};
 ghost use Rattle.era_disks.specs.Rows.{length-bytes_of};
-ghost use Rattle.era_disks.specs.MemDisk.{place_of, sectors_of, history_of, state_of, past_of, faults_of, starved_of, blank_state, IsNamed, IsMarked, IsFed, NoWrite, OneWrite};
+ghost use Rattle.era_disks.specs.MemDisk.{place_of, sectors_of, history_of, state_of, past_of, faults_of, starved_of, blank_state, IsNamed, IsMarked, OnlyMarks, IsFed, CountsWrite};
 
+use crate::disk_calls::{DiskCall, DiskCalls};
 use crate::mem_state::MemState;
 use crate::past::Past;
 use era_base::{Disk, Failed, Memory, Name};
 use std::alloc::Global;
 
-/// Sectors in memory, the place that they have, and the numbers of the writes that fail.
+/// Sectors in memory, the place that they have, and the calls that fail.
 #[derive(Drop)]
 pub struct MemDisk {
     pub alloc: Global,
@@ -20,40 +23,33 @@ pub struct MemDisk {
     pub first: u64,
     pub state: MemState,
     pub past: Past,
-    pub failing: Vec<u64>,
-    pub writes: u64,
+    pub calls: DiskCalls,
     pub faults: u64,
     pub starved: u64,
 }
 
 impl MemDisk {
-    /// A whole device of zeros, of which nothing is pending. No write of it fails. Disks in memory tell of their content.
+    /// A whole device of zeros, of which nothing is pending. No call of it fails. Disks in memory tell of their content.
     pub fn new(alloc: Global, name: &str, sectors: u64) -> Result<MemDisk, Memory>
         ensures tells { ⟦<MemDisk as Disk>⟧.tells ≡ true }
         ensures place { IfOk result (λ disk. place_of disk ≡ record { device = name.now; first = 0 }) }
         ensures size { IfOk result (λ disk. sectors_of disk ≡ sectors) }
         ensures zeros { IfOk result (λ disk. history_of disk ≡ record { past = []; now = blank_state sectors }) }
         ensures counts { IfOk result (λ disk. (faults_of disk ≡ 0) × (starved_of disk ≡ 0)) }
-        ensures failing { IfOk result (λ disk. (disk.failing.items ≡ []) × (disk.writes ≡ 0)) }
+        ensures calls { IfOk result (λ disk. disk.calls ≡ no_disk_calls) }
     {
         let device = Name::from_text(alloc, name)?;
         let state = MemState::new(alloc, sectors as usize)?;
-        Ok(MemDisk::of(alloc, device, 0, state, Vec::new(alloc)))
+        Ok(MemDisk::of(alloc, device, 0, state, DiskCalls::new(alloc)))
     }
 
-    /// A disk of these sectors at a place, of which the writes with the listed numbers fail. It takes no memory.
-    pub fn of(
-        alloc: Global,
-        device: Name,
-        first: u64,
-        state: MemState,
-        failing: Vec<u64>,
-    ) -> MemDisk
+    /// A disk of these sectors at a place, with these calls. It takes no memory.
+    pub fn of(alloc: Global, device: Name, first: u64, state: MemState, calls: DiskCalls) -> MemDisk
         ensures place { place_of result ≡ record { device = device; first = first } }
         ensures state { result.state ≡ state }
         ensures past { past_of result.past ≡ [] }
         ensures counts { (faults_of result ≡ 0) × (starved_of result ≡ 0) }
-        ensures failing { (result.failing ≡ failing) × (result.writes ≡ 0) }
+        ensures calls { result.calls ≡ calls }
     {
         MemDisk {
             alloc,
@@ -61,21 +57,28 @@ impl MemDisk {
             first,
             state,
             past: Past::Start,
-            failing,
-            writes: 0,
+            calls,
             faults: 0,
             starved: 0,
         }
     }
 
-    /// From now on the write with this number fails. The writes of a disk are counted from 0.
-    pub fn fail_write(&mut self, number: u64) -> Result<(), Memory>
-        ensures ok { OnOk result (self.new ≡ record self.old { failing = self.new.failing }) }
-        ensures listed { OnOk result (self.new.failing.items ≡ self.old.failing.items ++ number ∷ []) }
-        ensures err { OnErr result (self.new.failing.items ≡ self.old.failing.items) }
+    /// From now on the call of this kind with this number fails. Each kind is counted from 0.
+    pub fn fail(&mut self, call: DiskCall, number: u64) -> Result<(), Memory>
+        ensures ok { OnOk result (self.new ≡ record self.old { calls = also_failing_call call number self.old.calls }) }
+        ensures err { OnErr result (self.new ≡ self.old) }
     {
-        self.failing.push(number)?;
-        Ok(())
+        self.calls.fail(call, number)
+    }
+
+    /// One more failure.
+    fn refuse(&mut self) -> Result<(), Failed>
+        ensures failed { IsErr result }
+        ensures cause { HasCause (faults_of self.old) (faults_of self.new) result }
+        ensures counted { self.new ≡ record self.old { faults = one_more self.old.faults } }
+    {
+        self.faults = self.faults.saturating_add(1);
+        Err(Failed)
     }
 
     /// How often memory was refused.
@@ -107,11 +110,15 @@ impl Disk for MemDisk {
         ensures size { sectors_of self.new ≡ sectors_of self.old }
         ensures place { place_of self.new ≡ place_of self.old }
         ensures cause { HasCause (faults_of self.old) (faults_of self.new) result }
-        ensures never { IsOk result }
+        ensures fails { IsErr result ↔ NextFails self.old.calls.reads }
+        ensures counts { CountsFailure (faults_of self.old) (faults_of self.new) result }
+        ensures calls { self.new.calls ≡ record self.old.calls { reads = one_begun self.old.calls.reads } }
         ensures fed { IsFed self.old self.new }
-        ensures counts { NoWrite self.old self.new }
     {
         self.past.pass(&self.state);
+        if self.calls.reads.begin() {
+            return self.refuse();
+        }
         self.state.read(first as usize, into);
         Ok(())
     }
@@ -123,25 +130,20 @@ impl Disk for MemDisk {
         ensures place { place_of self.new ≡ place_of self.old }
         ensures cause { HasCause (faults_of self.old) (faults_of self.new) result }
         ensures marked { IsMarked first (length bytes.now) (history_of self.new).now }
-        ensures named { IsNamed self.old → IsErr result × ((history_of self.new).now.seen ≡ (history_of self.old).now.seen) }
+        ensures named { IsNamed self.old → IsErr result × OnlyMarks first (length bytes.now) (history_of self.old).now (history_of self.new).now }
         ensures only { OnErr result (IsNamed self.old ⊎ Rose (starved_of self.old) (starved_of self.new)) }
-        ensures counts { OneWrite self.old self.new × (IsNamed self.old → IsFed self.old self.new)
-            × OnOk result (IsFed self.old self.new) }
+        ensures counts { CountsWrite self.old self.new result }
     {
         self.past.pass(&self.state);
         self.state.mark(first as usize, bytes.len() / 512);
-        let named = is_named(self.failing.as_slice(), self.writes);
-        self.writes = self.writes.saturating_add(1);
-        if named {
-            self.faults = self.faults.saturating_add(1);
-            return Err(Failed);
+        if self.calls.writes.begin() {
+            return self.refuse();
         }
         match self.state.put(self.alloc, first as usize, bytes) {
             Ok(()) => Ok(()),
             Err(Memory) => {
                 self.starved = self.starved.saturating_add(1);
-                self.faults = self.faults.saturating_add(1);
-                Err(Failed)
+                self.refuse()
             }
         }
     }
@@ -151,11 +153,15 @@ impl Disk for MemDisk {
         ensures size { sectors_of self.new ≡ sectors_of self.old }
         ensures place { place_of self.new ≡ place_of self.old }
         ensures cause { HasCause (faults_of self.old) (faults_of self.new) result }
-        ensures never { IsOk result }
+        ensures fails { IsErr result ↔ NextFails self.old.calls.syncs }
+        ensures counts { CountsFailure (faults_of self.old) (faults_of self.new) result }
+        ensures calls { self.new.calls ≡ record self.old.calls { syncs = one_begun self.old.calls.syncs } }
         ensures fed { IsFed self.old self.new }
-        ensures counts { NoWrite self.old self.new }
     {
         self.past.pass(&self.state);
+        if self.calls.syncs.begin() {
+            return self.refuse();
+        }
         self.state.clean();
         Ok(())
     }
@@ -165,11 +171,4 @@ impl Disk for MemDisk {
     }
 
     ghost whole = { λ disk told. record { bytes = length-bytes_of disk.state.rows.items; flags = disk.state.same } };
-}
-
-/// Whether a list of numbers has this one.
-fn is_named(numbers: &[u64], number: u64) -> bool
-    ensures { IsTrue result ↔ Contains numbers.now number }
-{
-    numbers.contains(&number)
 }

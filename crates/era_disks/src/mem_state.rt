@@ -18,7 +18,7 @@ impl MemState {
     ghost use Rattle.std.specs.Prelude.{ℕ, ◌+◌, ◌*◌, ◌≤◌, IfOk, OnOk};
     ghost use Rattle.era_base.specs.Bytes.{part, splice};
     ghost use Rattle.era_base.specs.CrashModel.{LiesOn, SameBut, Synced};
-    ghost use Rattle.era_disks.specs.MemDisk.{state_of, blank_state, IsMarked};
+    ghost use Rattle.era_disks.specs.MemDisk.{state_of, blank_state, IsMarked, OnlyMarks};
 
     /// Sectors that are zero, of which none is pending.
     pub fn new(alloc: Global, sectors: usize) -> Result<MemState, Memory>
@@ -39,12 +39,13 @@ impl MemState {
         read_rows(&self.rows[first..first + sectors], into);
     }
 
-    /// Marks sectors as pending.
+    /// OnlyMarks sectors as pending.
     pub fn mark(&mut self, first: usize, sectors: usize)
         requires { first + sectors ≤ length self.old.rows.items }
         ensures rows { self.new.rows.items ≡ self.old.rows.items }
         ensures same { SameBut (first * 512) (first * 512 + sectors * 512) (state_of self.old) (state_of self.new) }
         ensures marked { IsMarked first (sectors * 512) (state_of self.new) }
+        ensures marks { OnlyMarks first (sectors * 512) (state_of self.old) (state_of self.new) }
     {
         self.pending[first..first + sectors].fill(true);
     }

@@ -1,7 +1,7 @@
 //! What the rows run on: a bay in memory, and streams of text.
 
 use era_base::Bytes;
-use era_disks::{FreePace, MemBay, TextSink, TextSource};
+use era_disks::{DiskCall, FreePace, MemBay, TextSink, TextSource};
 use era_top::era_top;
 use std::alloc::{AllocError, Global};
 use std::sync::Wait;
@@ -24,7 +24,7 @@ pub fn bay(alloc: Global, sectors: u64, failing: &[u64]) -> Result<MemBay, Fail>
     let mut bay = MemBay::new(alloc);
     bay.add("origin", sectors)?;
     for number in failing {
-        bay.fail_write("origin", *number)?;
+        bay.fail_disk("origin", DiskCall::Write, *number)?;
     }
     Ok(bay)
 }
@@ -35,14 +35,25 @@ pub fn run<R: Threads + Wait + Sync>(
     alloc: Global,
     words: &[&str],
     input: &[u8],
+    bay: MemBay,
+) -> Result<Ran, Fail> {
+    let source = TextSource::new(alloc, input)?;
+    run_over(rt, alloc, words, source, TextSink::new(alloc), bay)
+}
+
+/// Runs the program with these words over a bay, from this source to this sink.
+pub fn run_over<R: Threads + Wait + Sync>(
+    rt: &R,
+    alloc: Global,
+    words: &[&str],
+    mut source: TextSource,
+    mut sink: TextSink,
     mut bay: MemBay,
 ) -> Result<Ran, Fail> {
     let mut texts = Vec::new(alloc);
     for word in words {
         texts.push(String::from_str(alloc, word)?)?;
     }
-    let mut source = TextSource::new(alloc, input)?;
-    let mut sink = TextSink::new(alloc);
     let status = era_top(
         rt,
         alloc,

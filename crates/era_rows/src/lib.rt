@@ -14,4 +14,6 @@ mod needs;
 #[cfg(test)]
 mod refusals;
 #[cfg(test)]
+mod streams;
+#[cfg(test)]
 mod writes;

@@ -1,5 +1,8 @@
-use Rattle.std.proofs.Common.{Vec, Global, ℕ, length, Some, arith, refl, sym, ◌∙◌, ap}
+use Rattle.std.proofs.Common.{◌≡◌, Vec, Global, ℕ, length, Some, inl, inr, arith, refl, sym, ◌∙◌, ap, subst}
+use Rattle.std.proofs.lemmas.Bool.{false≢true}
+use Rattle.std.proofs.lemmas.Option.{same_Some}
 use Rattle.era_disks.specs.Devices.{device_size, device_of}
+use Rattle.era_disks.specs.MemBay.{IsRefusedAt}
 use Rattle.era_disks.specs.declared.device.Device.{Device}
 use Rattle.era_disks.proofs.FirstDevice.{found-along, found-device, if_ok_then}
 use Rattle.era_disks.proofs.mem_bay.MemBayBay.open_meta.Goals as goal
@@ -17,6 +20,25 @@ returns-in-Some-clause-whole c =
     c.as_slice.ensures.value refl c.in-Some.ensures.some in
     let here = found-device c.args.self.now.devices.items c.args.name.now c.in-Some.index found c.index.result.now c.index.ensures in
     if_ok_then c.open_at.result c.open_at.ensures.place (λ disk is.
-    ap (λ (ds : Vec Device Global). device_size (device_of ds.items c.args.name.now)) c.open_at.ensures.devices
+    ap (λ (ds : Vec Device Global). device_size (device_of ds.items c.args.name.now)) c.open_at.ensures.rest.0
     ∙ ap device_size found.found
     ∙ ap (λ (n : ℕ). Some n) (sym (ap (λ (d : Device). length d.state.rows.items) here) ∙ sym c.sectors-sectors.ensures ∙ sym is.1))
+
+pub returns-in-Some-clause-refused : goal.returns-in-Some-clause-refused
+returns-in-Some-clause-refused c =
+    let found = found-along c.as_slice.result.now c.args.self.now.devices.items c.args.name.now c.args.name.now c.in-Some.index
+    c.as_slice.ensures.value refl c.in-Some.ensures.some in
+    let here = found-device c.args.self.now.devices.items c.args.name.now c.in-Some.index found c.index.result.now c.index.ensures in
+    let size : c.sectors-sectors.result ≡ length found.device.state.rows.items =
+    c.sectors-sectors.ensures ∙ ap (λ (d : Device). length d.state.rows.items) here in
+    let told = ap device_size found.found in
+    let refused_at = IsRefusedAt c.args.self.now c.args.name.now 0 in (
+      c.open_at.ensures.refused,
+      (
+        λ failed. inr (λ n is. subst refused_at (size ∙ same_Some (length found.device.state.rows.items) n (sym told ∙ is)) (c.open_at.ensures.why.0 failed)),
+        λ wont. elim wont [
+          | inl fails ↦ absurd (false≢true (sym c.if-begin.false ∙ c.begin.ensures.fails.1 fails))
+          | inr refused ↦ c.open_at.ensures.why.1 (subst refused_at (sym size) (refused (length found.device.state.rows.items) told))
+        ],
+      ),
+    )
