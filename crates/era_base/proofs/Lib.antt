@@ -1,1 +1,4 @@
 pub mod RunLists
+pub mod CrashImages
+pub mod Moments
+pub mod CallsSince

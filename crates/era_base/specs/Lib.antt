@@ -3,6 +3,7 @@ pub mod Runs
 pub mod Faults
 pub mod Bytes
 pub mod CrashModel
+pub mod CrashLaws
 pub mod Disk
 pub mod Streams
 pub mod Bay

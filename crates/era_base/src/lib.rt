@@ -8,6 +8,7 @@ mod disk;
 mod faults;
 mod geometry;
 mod ids;
+mod laws;
 mod pace;
 mod runs;
 mod streams;
@@ -20,6 +21,10 @@ pub use disk::Disk;
 pub use faults::{Failed, Memory};
 pub use geometry::{GeomError, Geometry};
 pub use ids::CmdId;
+pub use laws::{
+    call_adds_its_images, calls_leave_the_rest, clean_disk_has_one_image,
+    disk_as_it_reads_is_an_image, images_of_past_moments_stay, synced_bytes_survive,
+};
 pub use pace::{Pace, Point};
 pub use runs::Runs;
 pub use streams::{Sink, Source};
