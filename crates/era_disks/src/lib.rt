@@ -3,6 +3,8 @@
 
 mod bay_calls;
 mod call_list;
+#[cfg(test)]
+mod crash_tests;
 mod device;
 mod disk_calls;
 mod failing_give;
@@ -21,6 +23,7 @@ mod mem_state;
 mod past;
 mod rows;
 mod std_streams;
+mod tear;
 mod text_sink;
 mod text_source;
 
@@ -37,5 +40,6 @@ pub use loans::Loans;
 pub use mem_bay::MemBay;
 pub use mem_disk::MemDisk;
 pub use std_streams::{StdSink, StdSource};
+pub use tear::Tear;
 pub use text_sink::TextSink;
 pub use text_source::TextSource;
