@@ -8,6 +8,8 @@ pub mod MemDisk
 pub mod Crashed
 pub mod Rows
 pub mod Tears
+pub mod PlainPast
+pub mod PlainDisk
 pub mod Streams
 pub mod ImageFiles
 pub mod FileDisk
