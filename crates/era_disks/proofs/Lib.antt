@@ -2,5 +2,7 @@ pub mod BayReads
 pub mod Entries
 pub mod FirstDevice
 pub mod RowParts
+pub mod SyncedRows
+pub mod TornRows
 pub mod States
 mod ImageSizes

@@ -8,6 +8,7 @@ use Rattle.era_disks.specs.MemDisk.{place_of, sectors_of}
 use Rattle.era_disks.specs.declared.device.Device.{Device}
 use Rattle.era_disks.specs.declared.disk_calls.DiskCalls.{DiskCalls}
 use Rattle.era_disks.specs.declared.mem_disk.MemDisk.{MemDisk}
+use Rattle.era_disks.specs.declared.mem_state.MemState.{MemState}
 
 -- Whether a device has this name.
 abbrev pub has_name : List ℕ → Device → Bool
@@ -26,6 +27,11 @@ device_reads (Some device) sector = option_map sector_bytes (slice_get device.st
 abbrev pub device_size : Option Device → Option ℕ
 device_size None = None
 device_size (Some device) = Some (length device.state.rows.items)
+
+-- The sectors of a device.
+abbrev pub device_state : Option Device → Option MemState
+device_state None = None
+device_state (Some device) = Some device.state
 
 -- The calls that fail of each disk of a device that is lent.
 abbrev pub device_calls : Option Device → Option DiskCalls

@@ -5,7 +5,11 @@ pub mod Devices
 pub mod Loans
 pub mod MemBay
 pub mod MemDisk
+pub mod Crashed
 pub mod Rows
+pub mod Tears
+pub mod PlainPast
+pub mod PlainDisk
 pub mod Streams
 pub mod ImageFiles
 pub mod FileDisk

@@ -2,13 +2,14 @@
 use Rattle.std.specs.Prelude.{◌≡◌, ◌⊎◌, ℕ, ◌+◌, ◌≤◌, List, length, Option, Some}
 use Rattle.era_base.specs.Bay.{Loan, IsFree}
 use Rattle.era_disks.specs.Loans.{loans_of}
-use Rattle.era_disks.specs.Devices.{device_of, device_reads, device_size, device_calls, IsFoundAt}
+use Rattle.era_disks.specs.Devices.{device_of, device_reads, device_size, device_state, device_calls, IsFoundAt}
 use Rattle.era_disks.specs.Calls.{Calls, NextFails}
 use Rattle.era_disks.specs.DiskCalls.{no_disk_calls, restarted_calls}
 use Rattle.era_disks.specs.MemDisk.{place_of, sectors_of, faults_of, starved_of}
 use Rattle.era_disks.specs.declared.disk_calls.DiskCalls.{DiskCalls}
 use Rattle.era_disks.specs.declared.mem_disk.MemDisk.{MemDisk}
 use Rattle.era_disks.specs.declared.mem_bay.MemBay.{MemBay}
+use Rattle.era_disks.specs.declared.mem_state.MemState.{MemState}
 
 -- The size of each device that the bay holds.
 abbrev pub sizes_of : MemBay → List ℕ → Option ℕ
@@ -39,6 +40,14 @@ pub record ForgetsCalls (name : List ℕ) (old new : MemBay) : Type 0 where
   pub device : (calls : DiskCalls) → calls_of new name ≡ Some calls → calls ≡ no_disk_calls
   pub others : (other : List ℕ) → (other ≡ name → ⊥) → calls_of new other ≡ calls_of old other
   pub bay : new.calls ≡ old.calls
+
+-- The sectors of a device that the bay holds.
+abbrev pub state_in : MemBay → List ℕ → Option MemState
+state_in bay name = device_state (device_of bay.devices.items name)
+
+-- No sector of the device is lent.
+abbrev pub IsIdle : MemBay → List ℕ → Type 0
+IsIdle bay name = (size : ℕ) → sizes_of bay name ≡ Some size → IsFree place_of sectors_of (bay_loans bay) name 0 size
 
 -- A disk that was just lent: the calls of its device fail and none was begun, and it has not failed.
 pub record IsFresh (bay : MemBay) (name : List ℕ) (disk : MemDisk) : Type 0 where

@@ -4,6 +4,7 @@ use Rattle.era_base.specs.CrashModel.{State, History, is_pending}
 use Rattle.era_base.specs.Disk.{Place}
 use Rattle.era_disks.specs.Calls.{NextFails, one_begun, one_more, CountsFailure}
 use Rattle.era_disks.specs.Rows.{bytes_of}
+use Rattle.era_disks.specs.Tears.{synced_rows}
 use Rattle.era_disks.specs.declared.mem_state.MemState.{MemState}
 use Rattle.era_disks.specs.declared.past.Past.{Past}
 use Rattle.era_disks.specs.declared.past.Past.TheVariants.{Start, After'}
@@ -13,6 +14,10 @@ use Rattle.era_disks.specs.declared.mem_disk.MemDisk.{MemDisk}
 abbrev pub state_of : MemState → State
 state_of now = record { seen = bytes_of now.rows.items; pending = now.pending.items }
 
+-- What sectors in memory read as at the last sync that answered Ok, or at their beginning where there was none.
+abbrev pub synced_of : MemState → List ℕ
+synced_of now = bytes_of (synced_rows now.pending.items now.kept.items now.rows.items)
+
 -- The past states, the first one first.
 abbrev pub past_of : Past → List State
 past_of Start = []
@@ -21,6 +26,10 @@ past_of (After' now marker before) = past_of before ++ state_of now.value ∷ []
 -- The states of a disk in memory.
 abbrev pub history_of : MemDisk → History
 history_of disk = record { past = past_of disk.past; now = state_of disk.state }
+
+-- What a disk in memory read as at the last sync that answered Ok, or at its beginning where there was none.
+abbrev pub synced_in : MemDisk → List ℕ
+synced_in disk = synced_of disk.state
 
 -- Where a disk in memory lies.
 abbrev pub place_of : MemDisk → Place

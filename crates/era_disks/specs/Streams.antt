@@ -1,5 +1,5 @@
 -- The streams in memory: what is left of a source, what a sink was given, and which of their calls fail.
-use Rattle.std.specs.Prelude.{◌≡◌, ◌==◌, ◌⊎◌, ℕ, Bool, List, ◌++◌, take, drop, Option, Result, MatchResult}
+use Rattle.std.specs.Prelude.{◌≡◌, ◌==◌, ◌⊎◌, ℕ, ◌+◌, ◌<◌, ◌≤◌, Bool, List, ◌++◌, length, take, drop, vec_capacity, Option, Result, OnErr, MatchResult}
 use Rattle.std.specs.List.{find}
 use Rattle.std.specs.Option.{option_map}
 use Rattle.era_disks.specs.Calls.{one_more}
@@ -27,6 +27,10 @@ sink_faults sink = sink.faults
 abbrev pub starved_of : TextSink → ℕ
 starved_of sink = sink.starved
 
+-- How many bytes a sink in memory has room for.
+abbrev pub room_of : TextSink → ℕ
+room_of sink = vec_capacity sink.bytes
+
 -- Whether a failing give has this number.
 abbrev pub has_number : ℕ → FailingGive → Bool
 has_number number give = give.number == number
@@ -52,6 +56,11 @@ pub record Starved (old new : TextSink) : Type 0 where
 -- The sink took all the bytes, or failed as memory was refused.
 abbrev pub GivesWhole : {T E : Type 0} → List ℕ → TextSink → TextSink → Result T E → Type 0
 GivesWhole bytes old new result = MatchResult result (λ _. Took bytes old new) (λ _. Starved old new)
+
+-- The room hasn't shrunk; where the sink failed, what was given with these bytes would have passed it.
+pub record KeepsRoom {T E : Type 0} (bytes : List ℕ) (old new : TextSink) (result : Result T E) : Type 0 where
+  pub kept : room_of old ≤ room_of new
+  pub passed : OnErr result (room_of old < length (given_to old) + length bytes)
 
 -- The sink took so many of the bytes as a failing give takes, but for want of memory.
 abbrev pub GivesListed : ℕ → List ℕ → TextSink → TextSink → Type 0

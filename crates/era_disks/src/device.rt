@@ -4,13 +4,15 @@ ghost use Rattle.std.specs.Prelude.{◌≡◌, ◌≢◌, [], ◌∷◌, ◌++�
 ghost use Rattle.era_disks.specs.Devices.{IsFoundAt, device_of, has_name};
 ghost use Rattle.era_disks.specs.DiskCalls.{no_disk_calls, also_failing_call, restarted_calls};
 ghost use Rattle.era_disks.specs.MemDisk.{place_of, sectors_of, faults_of, starved_of};
+ghost use Rattle.era_disks.specs.Crashed.{Crashes};
 ghost use Rattle.era_disks.specs.Rows.{bytes_of};
 ghost use borrow.Rule.Slice.PartMut.{put_mid};
 
 use crate::disk_calls::{DiskCall, DiskCalls};
 use crate::mem_disk::MemDisk;
 use crate::mem_state::MemState;
-use crate::rows::{append_row, copy_rows};
+use crate::rows::{append_row, copy_kept, copy_rows};
+use crate::tear::Tear;
 use era_base::{Bytes, Memory, Name};
 use std::alloc::Global;
 
@@ -38,7 +40,12 @@ impl Device {
         let rows = copy_rows(alloc, &self.state.rows[from..to])?;
         let pending = Vec::from_slice(alloc, &self.state.pending[from..to])?;
         let calls = self.calls.restart(alloc)?;
-        let state = MemState { rows, pending };
+        let kept = copy_kept(alloc, &self.state.kept[from..to])?;
+        let state = MemState {
+            rows,
+            pending,
+            kept,
+        };
         Ok(MemDisk::of(alloc, device, first, state, calls))
     }
 
@@ -57,6 +64,15 @@ impl Device {
         ensures rows { self.new.state.rows.items ≡ self.old.state.rows.items }
     {
         self.calls.fail(call, number)
+    }
+
+    /// Becomes one of its crash images.
+    pub fn crash(&mut self, alloc: Global, tear: Tear) -> Result<(), Memory>
+        ensures torn { Crashes tear self.old.state self.new.state result }
+        ensures size { length self.new.state.rows.items ≡ length self.old.state.rows.items }
+        ensures rest { (self.new.name ≡ self.old.name) × (self.new.calls ≡ self.old.calls) }
+    {
+        self.state.crash(alloc, tear)
     }
 
     /// All bytes of the device.
@@ -82,6 +98,7 @@ impl Device {
         let sectors = state.rows.len();
         self.state.rows[first..first + sectors].swap_with_slice(state.rows.as_mut_slice());
         self.state.pending[first..first + sectors].copy_from_slice(state.pending.as_slice());
+        self.state.kept[first..first + sectors].swap_with_slice(state.kept.as_mut_slice());
         self.calls.clear();
     }
 }

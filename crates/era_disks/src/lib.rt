@@ -3,6 +3,8 @@
 
 mod bay_calls;
 mod call_list;
+#[cfg(test)]
+mod crash_tests;
 mod device;
 mod disk_calls;
 mod failing_give;
@@ -19,8 +21,13 @@ mod mem_bay;
 mod mem_disk;
 mod mem_state;
 mod past;
+mod plain_disk;
+mod plain_past;
+#[cfg(test)]
+mod plain_tests;
 mod rows;
 mod std_streams;
+mod tear;
 mod text_sink;
 mod text_source;
 
@@ -36,6 +43,9 @@ pub use loan_entry::LoanEntry;
 pub use loans::Loans;
 pub use mem_bay::MemBay;
 pub use mem_disk::MemDisk;
+pub use plain_disk::PlainDisk;
+pub use plain_past::PlainPast;
 pub use std_streams::{StdSink, StdSource};
+pub use tear::Tear;
 pub use text_sink::TextSink;
 pub use text_source::TextSource;

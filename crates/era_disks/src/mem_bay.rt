@@ -9,6 +9,7 @@ use crate::disk_calls::{DiskCall, DiskCalls};
 use crate::loans::Loans;
 use crate::mem_disk::MemDisk;
 use crate::mem_state::MemState;
+use crate::tear::Tear;
 use era_base::{Bay, BayError, Bytes, Disk, Memory, Name};
 use std::alloc::Global;
 
@@ -31,7 +32,9 @@ impl MemBay {
     ghost use Rattle.era_disks.specs.BayCalls.{no_bay_calls, also_failing_at};
     ghost use Rattle.era_disks.specs.DiskCalls.{no_disk_calls, also_failing_call};
     ghost use Rattle.era_disks.specs.declared.disk_calls.DiskCalls.{DiskCalls};
-    ghost use Rattle.era_disks.specs.MemBay.{sizes_of, reads_of, bay_loans, bay_faults, calls_of, SameCalls, ForgetsCalls, IsFresh, IsRefusedAt, LiesAt};
+    ghost use Rattle.era_disks.specs.MemBay.{sizes_of, reads_of, bay_loans, bay_faults, calls_of, state_in, SameCalls, ForgetsCalls, IsIdle, IsFresh, IsRefusedAt, LiesAt};
+    ghost use Rattle.era_disks.specs.Crashed.{Crashes};
+    ghost use Rattle.era_disks.specs.declared.mem_state.MemState.{MemState};
     ghost use Rattle.era_disks.specs.Devices.{IsFoundAt, device_of, device_length};
 
     /// A bay that holds no device, and of which no call fails. It takes no memory.
@@ -106,6 +109,23 @@ impl MemBay {
     {
         match find_device(self.devices.as_slice(), name) {
             Some(index) => self.devices[index].fail(call, number),
+            None => Ok(()),
+        }
+    }
+
+    /// Turns a device into one of its crash images. A name that the bay doesn't hold changes nothing. Where memory is
+    /// refused, which may be so for `Fill` alone, some of the pending sectors are torn, and all still pend.
+    pub fn crash(&mut self, name: &str, tear: Tear) -> Result<(), Memory>
+        requires idle { IsIdle self.old name.now }
+        ensures torn { (before : MemState) → state_in self.old name.now ≡ Some before
+            → (after : MemState) × (state_in self.new name.now ≡ Some after) × Crashes tear before after result }
+        ensures sizes { (other : List ℕ) → sizes_of self.new other ≡ sizes_of self.old other }
+        ensures others { (other : List ℕ) → (other ≡ name.now → ⊥) → state_in self.new other ≡ state_in self.old other }
+        ensures rest { (bay_loans self.new ≡ bay_loans self.old) × (bay_faults self.new ≡ bay_faults self.old) }
+        ensures calls { (self.new.calls ≡ self.old.calls) × ((other : List ℕ) → calls_of self.new other ≡ calls_of self.old other) }
+    {
+        match find_device(self.devices.as_slice(), name) {
+            Some(index) => self.devices[index].crash(self.alloc, tear),
             None => Ok(()),
         }
     }

@@ -1,17 +1,19 @@
 //! A disk in memory. What was never written takes no data.
 
-ghost use Rattle.std.specs.Prelude.{◌≡◌, ◌↔◌, ◌⊎◌, ℕ, ◌*◌, true, [], length, IfOk, IsErr, OnOk, OnErr};
-ghost use Rattle.era_base.specs.CrashModel.{LiesOn, IsWhole};
+ghost use Rattle.std.specs.Prelude.{◌≡◌, ◌↔◌, ◌⊎◌, ℕ, ◌*◌, true, [], length, IfOk, IsErr, OnOk, OnErr, MatchResult};
+ghost use Rattle.era_base.specs.CrashModel.{LiesOn, IsWhole, IsClean, IsCrashImage};
+ghost use Rattle.era_disks.specs.Tears.{IsFilled};
 ghost use Rattle.era_base.specs.Disk.{Reads, Writes, Syncs};
 ghost use Rattle.era_base.specs.Faults.{HasCause, Rose};
 ghost use Rattle.era_disks.specs.Calls.{NextFails, one_begun, one_more, CountsFailure};
 ghost use Rattle.era_disks.specs.DiskCalls.{no_disk_calls, also_failing_call};
 ghost use Rattle.era_disks.specs.Rows.{length-bytes_of};
-ghost use Rattle.era_disks.specs.MemDisk.{place_of, sectors_of, history_of, state_of, past_of, faults_of, starved_of, blank_state, IsNamed, IsMarked, OnlyMarks, IsFed, CountsWrite};
+ghost use Rattle.era_disks.specs.MemDisk.{place_of, sectors_of, history_of, state_of, synced_in, past_of, faults_of, starved_of, blank_state, IsNamed, IsMarked, OnlyMarks, IsFed, CountsWrite};
 
 use crate::disk_calls::{DiskCall, DiskCalls};
 use crate::mem_state::MemState;
 use crate::past::Past;
+use crate::tear::Tear;
 use era_base::{Disk, Failed, Memory, Name};
 use std::alloc::Global;
 
@@ -35,6 +37,7 @@ impl MemDisk {
         ensures place { IfOk result (λ disk. place_of disk ≡ record { device = name.now; first = 0 }) }
         ensures size { IfOk result (λ disk. sectors_of disk ≡ sectors) }
         ensures zeros { IfOk result (λ disk. history_of disk ≡ record { past = []; now = blank_state sectors }) }
+        ensures synced { IfOk result (λ disk. synced_in disk ≡ (history_of disk).now.seen) }
         ensures counts { IfOk result (λ disk. (faults_of disk ≡ 0) × (starved_of disk ≡ 0)) }
         ensures calls { IfOk result (λ disk. disk.calls ≡ no_disk_calls) }
     {
@@ -69,6 +72,24 @@ impl MemDisk {
         ensures err { OnErr result (self.new ≡ self.old) }
     {
         self.calls.fail(call, number)
+    }
+
+    /// Becomes one of its crash images, as after a new start: nothing is pending, and its moments begin anew. Where
+    /// memory is refused, which may be so for `Fill` alone, some of the pending sectors are torn, and all still pend.
+    pub fn crash(&mut self, tear: Tear) -> Result<(), Memory>
+        ensures image { IsCrashImage (history_of self.old).now (history_of self.new).now.seen }
+        ensures clean { OnOk result (IsClean (history_of self.new).now × (synced_in self.new ≡ (history_of self.new).now.seen)) }
+        ensures keep { tear ≡ Tear.Keep → OnOk result ((history_of self.new).now.seen ≡ (history_of self.old).now.seen) }
+        ensures old { tear ≡ Tear.Old → OnOk result ((history_of self.new).now.seen ≡ synced_in self.old) }
+        ensures fill { (byte : ℕ) → tear ≡ Tear.Fill byte
+            → OnOk result (IsFilled byte (history_of self.old).now (history_of self.new).now.seen) }
+        ensures past { (history_of self.new).past ≡ [] }
+        ensures same { (place_of self.new ≡ place_of self.old) × (sectors_of self.new ≡ sectors_of self.old) }
+        ensures rest { (faults_of self.new ≡ faults_of self.old) × (starved_of self.new ≡ starved_of self.old)
+            × (self.new.calls ≡ self.old.calls) }
+    {
+        self.past = Past::Start;
+        self.state.crash(self.alloc, tear)
     }
 
     /// One more failure.
@@ -113,7 +134,7 @@ impl Disk for MemDisk {
         ensures fails { IsErr result ↔ NextFails self.old.calls.reads }
         ensures counts { CountsFailure (faults_of self.old) (faults_of self.new) result }
         ensures calls { self.new.calls ≡ record self.old.calls { reads = one_begun self.old.calls.reads } }
-        ensures fed { IsFed self.old self.new }
+        ensures fed { IsFed self.old self.new × (synced_in self.new ≡ synced_in self.old) }
     {
         self.past.pass(&self.state);
         if self.calls.reads.begin() {
@@ -129,7 +150,7 @@ impl Disk for MemDisk {
         ensures size { sectors_of self.new ≡ sectors_of self.old }
         ensures place { place_of self.new ≡ place_of self.old }
         ensures cause { HasCause (faults_of self.old) (faults_of self.new) result }
-        ensures marked { IsMarked first (length bytes.now) (history_of self.new).now }
+        ensures marked { IsMarked first (length bytes.now) (history_of self.new).now × (synced_in self.new ≡ synced_in self.old) }
         ensures named { IsNamed self.old → IsErr result × OnlyMarks first (length bytes.now) (history_of self.old).now (history_of self.new).now }
         ensures only { OnErr result (IsNamed self.old ⊎ Rose (starved_of self.old) (starved_of self.new)) }
         ensures counts { CountsWrite self.old self.new result }
@@ -156,7 +177,8 @@ impl Disk for MemDisk {
         ensures fails { IsErr result ↔ NextFails self.old.calls.syncs }
         ensures counts { CountsFailure (faults_of self.old) (faults_of self.new) result }
         ensures calls { self.new.calls ≡ record self.old.calls { syncs = one_begun self.old.calls.syncs } }
-        ensures fed { IsFed self.old self.new }
+        ensures fed { IsFed self.old self.new × MatchResult result (λ _. synced_in self.new ≡ (history_of self.new).now.seen)
+            (λ _. synced_in self.new ≡ synced_in self.old) }
     {
         self.past.pass(&self.state);
         if self.calls.syncs.begin() {

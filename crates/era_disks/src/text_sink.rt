@@ -1,10 +1,10 @@
 //! A text in memory to which bytes are given.
 
-ghost use Rattle.std.specs.Prelude.{◌≡◌, [], ◌∷◌, ◌++◌, ℕ, Option, Some, None, OnOk, OnErr, IsErr};
+ghost use Rattle.std.specs.Prelude.{◌≡◌, [], ◌∷◌, ◌++◌, ℕ, ◌≤◌, Option, Some, None, IfOk, OnOk, OnErr, IsErr};
 ghost use Rattle.era_base.specs.Faults.{HasCause};
 ghost use Rattle.era_base.specs.Streams.{GivesTo};
 ghost use Rattle.era_disks.specs.Calls.{one_more, CountsFailure};
-ghost use Rattle.era_disks.specs.Streams.{given_to, sink_faults, starved_of, still_taken, next_taken, GivesWhole, GivesListed};
+ghost use Rattle.era_disks.specs.Streams.{given_to, sink_faults, starved_of, room_of, still_taken, next_taken, GivesWhole, GivesListed, KeepsRoom};
 
 use crate::failing_give::FailingGive;
 use era_base::{Failed, Memory, Sink};
@@ -38,6 +38,24 @@ impl TextSink {
         }
     }
 
+    /// A sink that was given nothing, with room for so many bytes. While what it was given fits in its room, a give
+    /// fails only where it is listed.
+    pub fn with_room(alloc: Global, room: usize) -> Result<TextSink, Memory>
+        ensures given { IfOk result (λ sink. given_to sink ≡ []) }
+        ensures told { IfOk result (λ sink. ⟦<TextSink as Sink>⟧.given sink ≡ Some []) }
+        ensures room { IfOk result (λ sink. room ≤ room_of sink) }
+        ensures faults { IfOk result (λ sink. (sink_faults sink ≡ 0) × (starved_of sink ≡ 0)) }
+        ensures calls { IfOk result (λ sink. (sink.failing.items ≡ []) × (sink.gives ≡ 0)) }
+    {
+        Ok(TextSink {
+            bytes: Vec::with_capacity(alloc, room)?,
+            failing: Vec::new(alloc),
+            gives: 0,
+            faults: 0,
+            starved: 0,
+        })
+    }
+
     /// From now on the give with this number fails, and takes so many bytes of its piece, or all where it has fewer.
     /// The gives are counted from 0. Of two entries for one give the first one counts.
     pub fn fail(&mut self, number: u64, taken: usize) -> Result<(), Memory>
@@ -67,6 +85,7 @@ impl TextSink {
     fn take_in(&mut self, bytes: &[u8]) -> Result<(), Failed>
         ensures calls { (self.new.failing ≡ self.old.failing) × (self.new.gives ≡ self.old.gives) }
         ensures took { GivesWhole bytes.now self.old self.new result }
+        ensures room { KeepsRoom bytes.now self.old self.new result }
         ensures cause { HasCause (sink_faults self.old) (sink_faults self.new) result }
         ensures faults { CountsFailure (sink_faults self.old) (sink_faults self.new) result }
     {
@@ -90,6 +109,8 @@ impl Sink for TextSink {
         ensures given { GivesTo (Some (given_to self.old)) (Some (given_to self.new)) bytes.now result }
         ensures named { (taken : ℕ) → next_taken self.old ≡ Some taken → IsErr result × GivesListed taken bytes.now self.old self.new }
         ensures only { next_taken self.old ≡ None → GivesWhole bytes.now self.old self.new result }
+        ensures room { next_taken self.old ≡ None → KeepsRoom bytes.now self.old self.new result }
+        ensures kept { room_of self.old ≤ room_of self.new }
         ensures cause { HasCause (sink_faults self.old) (sink_faults self.new) result }
         ensures faults { CountsFailure (sink_faults self.old) (sink_faults self.new) result }
         ensures calls { (self.new.failing ≡ self.old.failing) × (self.new.gives ≡ one_more self.old.gives) }

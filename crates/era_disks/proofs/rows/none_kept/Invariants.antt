@@ -1,0 +1,5 @@
+use Rattle.std.proofs.Common.{◌≡◌, length, take}
+use Rattle.era_disks.proofs.rows.none_kept.Given as goal
+
+abbrev pub invariant-loop-sector : goal.invariant-loop-sector
+invariant-loop-sector l = length l.kept.items ≡ l._sector
