@@ -55,6 +55,11 @@ IsNamed disk = NextFails disk.calls.writes
 abbrev pub IsMarked : ℕ → ℕ → State → Type 0
 IsMarked first count state = (offset : ℕ) → first * 512 ≤ offset → offset < first * 512 + count → is_pending state offset ≡ true
 
+-- The sectors of so many bytes from a sector on are pending, and of the others those that were.
+pub record MarksAlone (first count : ℕ) (before after : State) : Type 0 where
+  pub marked : IsMarked first count after
+  pub others : (offset : ℕ) → (first * 512 ≤ offset → first * 512 + count ≤ offset) → is_pending after offset ≡ is_pending before offset
+
 -- The state in which all is zero and nothing is pending.
 abbrev pub blank_state : ℕ → State
 blank_state sectors = record { seen = replicate (sectors * 512) 0; pending = replicate sectors false }

@@ -8,7 +8,7 @@ ghost use Rattle.era_base.specs.Faults.{HasCause, Rose};
 ghost use Rattle.era_disks.specs.Calls.{NextFails, one_begun, one_more, CountsFailure};
 ghost use Rattle.era_disks.specs.DiskCalls.{no_disk_calls, also_failing_call};
 ghost use Rattle.era_disks.specs.Rows.{length-bytes_of};
-ghost use Rattle.era_disks.specs.MemDisk.{place_of, sectors_of, history_of, state_of, synced_in, past_of, faults_of, starved_of, blank_state, IsNamed, IsMarked, OnlyMarks, IsFed, CountsWrite};
+ghost use Rattle.era_disks.specs.MemDisk.{place_of, sectors_of, history_of, state_of, synced_in, past_of, faults_of, starved_of, blank_state, IsNamed, MarksAlone, OnlyMarks, IsFed, CountsWrite};
 
 use crate::disk_calls::{DiskCall, DiskCalls};
 use crate::mem_state::MemState;
@@ -150,7 +150,8 @@ impl Disk for MemDisk {
         ensures size { sectors_of self.new ≡ sectors_of self.old }
         ensures place { place_of self.new ≡ place_of self.old }
         ensures cause { HasCause (faults_of self.old) (faults_of self.new) result }
-        ensures marked { IsMarked first (length bytes.now) (history_of self.new).now × (synced_in self.new ≡ synced_in self.old) }
+        ensures marked { MarksAlone first (length bytes.now) (history_of self.old).now (history_of self.new).now
+            × (synced_in self.new ≡ synced_in self.old) }
         ensures named { IsNamed self.old → IsErr result × OnlyMarks first (length bytes.now) (history_of self.old).now (history_of self.new).now }
         ensures only { OnErr result (IsNamed self.old ⊎ Rose (starved_of self.old) (starved_of self.new)) }
         ensures counts { CountsWrite self.old self.new result }
