@@ -13,3 +13,8 @@ pub mod Transcribing
 pub mod Listing
 pub mod Validating
 pub mod FirstMoment
+pub mod EntryRuns
+pub mod MarkCopies
+pub mod Upkeeping
+pub mod Runs
+pub mod NextSession

@@ -2,3 +2,4 @@ pub mod Machine
 pub mod Schedules
 pub mod Present
 pub mod KeptState
+pub mod Entries

@@ -1,18 +1,23 @@
 //! The machine.
 
-ghost use Rattle.std.specs.Prelude.{◌≡◌, ◌↔◌, [], ◌∷◌, IfOk, IsTrue, option_copied, reverse};
+ghost use Rattle.std.specs.Prelude.{◌≡◌, ◌↔◌, IfOk, IsTrue, OnErr, OnOk, if◌then◌else◌, reverse};
 ghost use Rattle.era_core.specs.KeptState.{IsKept};
-ghost use Rattle.era_core.specs.Present.{HaveContents};
-ghost use Rattle.era_model.specs.declared.history.Happening.TheVariants.{Opened};
-ghost use Rattle.era_core.specs.Machine.{CoreState, IsEnabled, opened_core};
+ghost use Rattle.era_core.specs.Machine.{CoreState, IsEnabled, MayLeaveImages, MayReopen, MayTake, after_step, is_metadata_event, opened_core, reopened, with_event, with_stripe};
+ghost use Rattle.era_core.specs.declared.step.Step.TheVariants.{Crash};
 ghost use Rattle.era_model.specs.Legal.{IsOpening};
 ghost use Rattle.era_model.specs.PlainCalls.{TellsAllBytes};
 
-use crate::block_table::BlockTable;
+use crate::copies::{copy_event, copy_images};
 use crate::core_guard::is_enabled;
+use crate::guard::inside_count;
+use crate::laws::every_schedule_is_legal;
+use crate::lookups::present_era;
+use crate::reopening::next_opening;
 use crate::step::Step;
-use era_base::{Bytes, Memory};
-use era_model::{FlightWrite, Happening, Marks, Opening, opening_content};
+use crate::trace::is_metadata_event;
+use crate::upkeep::Upkeep;
+use era_base::Memory;
+use era_model::{Event, Happening, Images, Opening, marks_follow_journal};
 use std::alloc::Global;
 use std::marker::Model;
 
@@ -22,11 +27,7 @@ pub struct Core {
     happenings: Vec<Happening>,
     inside: Vec<bool>,
     kept: Vec<u32>,
-    writes: Vec<FlightWrite>,
-    contents: Vec<Bytes>,
-    marks: BlockTable,
-    past: Vec<BlockTable>,
-    held: Option<BlockTable>,
+    upkeep: Upkeep,
 }
 
 impl Model for Core {
@@ -34,27 +35,15 @@ impl Model for Core {
 
     ghost view = { λ c. record { history = reverse c.happenings.items; inside = c.inside.items; kept = c.kept.items } };
 
-    ghost invariant = { λ c. IsKept (reverse c.happenings.items) c.inside.items c.writes.items c.contents.items c.marks c.past.items c.held };
+    ghost invariant = { λ c. IsKept (reverse c.happenings.items) c.inside.items c.upkeep };
 }
 
-/// The content of each block at an opening.
-fn opening_contents(alloc: Global, opening: &Opening) -> Result<Vec<Bytes>, Memory>
-    ensures { IfOk result (λ contents. HaveContents (Opened opening.now ∷ []) contents.items) }
+/// Behind an event of the metadata the count alone is kept.
+fn follow_kept(kept: &mut Vec<u32>, count: Vec<u32>, event: &Event)
+    ensures { kept.new.items ≡ (if is_metadata_event event.now then count.items else kept.old.items) }
 {
-    let mut contents = Vec::new(alloc);
-    for block in 0..opening.geometry.blocks() {
-        contents.push(opening_content(alloc, opening, block)?)?;
-    }
-    Ok(contents)
-}
-
-/// The snapshot block by block, if there is one.
-fn held_table(alloc: Global, held: Option<&Marks>) -> Result<Option<BlockTable>, Memory>
-    ensures { IfOk result (λ table. table ≡ option_copied held.entry) }
-{
-    match held {
-        Some(marks) => Ok(Some(BlockTable::of_marks(alloc, marks)?)),
-        None => Ok(None),
+    if is_metadata_event(event) {
+        *kept = count;
     }
 }
 
@@ -65,11 +54,7 @@ impl Core {
         requires legal { IsOpening opening }
         ensures { IfOk result (λ core. core ≡ opened_core opening) }
     {
-        let contents = opening_contents(alloc, &opening)?;
-        let marks = BlockTable::of_marks(alloc, &opening.marks)?;
-        let held = held_table(alloc, opening.held.as_ref())?;
-        let mut past = Vec::new(alloc);
-        past.push(marks.copy(alloc)?)?;
+        let upkeep = Upkeep::at_opening(alloc, &opening)?;
         let inside = vec![in alloc; false; opening.stripes as usize]?;
         let mut kept = Vec::new(alloc);
         kept.push(0)?;
@@ -79,11 +64,7 @@ impl Core {
             happenings,
             inside,
             kept,
-            writes: Vec::new(alloc),
-            contents,
-            marks,
-            past,
-            held,
+            upkeep,
         })
     }
 
@@ -95,12 +76,90 @@ impl Core {
             self.happenings.as_slice(),
             self.inside.as_slice(),
             self.kept.as_slice(),
-            self.writes.as_slice(),
-            self.contents.as_slice(),
-            &self.marks,
-            self.past.as_slice(),
-            self.held.as_ref(),
+            &self.upkeep,
             step,
         )
+    }
+
+    /// Takes a step that is enabled. After `Memory` the core is unchanged.
+    pub fn step(&mut self, alloc: Global, step: &Step) -> Result<(), Memory>
+        requires { IsEnabled self.old step.now }
+        ensures ok { OnOk result (self.new ≡ after_step self.old step.now) }
+        ensures err { OnErr result (self.new ≡ self.old) }
+    {
+        match step {
+            Step::Enter { stripe } => self.move_stripe(alloc, *stripe, true),
+            Step::Leave { stripe } => self.move_stripe(alloc, *stripe, false),
+            Step::Take(event) => self.take(alloc, event),
+            Step::Crash { place_images } => self.crash(alloc, place_images),
+            Step::Reopen { stripes } => self.reopen(alloc, *stripes),
+        }
+    }
+
+    /// Lets the stripe in, or out.
+    fn move_stripe(&mut self, alloc: Global, stripe: u32, inside: bool) -> Result<(), Memory>
+        ensures ok { OnOk result (self.new ≡ with_stripe self.old stripe inside) }
+        ensures err { OnErr result (self.new ≡ self.old) }
+    {
+        let mut flags = Vec::from_slice(alloc, self.inside.as_slice())?;
+        if (stripe as usize) < flags.len() {
+            flags[stripe as usize] = inside;
+        }
+        self.kept.push(inside_count(flags.as_slice()))?;
+        self.inside = flags;
+        Ok(())
+    }
+
+    /// Draws the event. Room for it is made first, so that nothing has to be undone.
+    fn take(&mut self, alloc: Global, event: &Event) -> Result<(), Memory>
+        requires { MayTake self.old event.now }
+        ensures ok { OnOk result (self.new ≡ with_event self.old event.now) }
+        ensures err { OnErr result (self.new ≡ self.old) }
+    {
+        marks_follow_journal();
+        let drawn = copy_event(alloc, event)?;
+        let count = vec![in alloc; inside_count(self.inside.as_slice()); 1]?;
+        self.happenings.reserve(1)?;
+        let era = present_era(self.happenings.as_slice());
+        self.upkeep.follow(alloc, era, event)?;
+        follow_kept(&mut self.kept, count, event);
+        match self.happenings.push(Happening::Happened(drawn)) {
+            Ok(()) => Ok(()),
+            Err(_) => unreachable!(),
+        }
+    }
+
+    /// Ends the session with the images.
+    fn crash(&mut self, alloc: Global, images: &Images) -> Result<(), Memory>
+        requires { MayLeaveImages self.old images.now }
+        ensures ok { OnOk result (self.new ≡ after_step self.old (Crash images.now)) }
+        ensures err { OnErr result (self.new ≡ self.old) }
+    {
+        let left = copy_images(alloc, images)?;
+        self.happenings.push(Happening::Crashed(left))?;
+        self.upkeep.crash();
+        Ok(())
+    }
+
+    /// Opens the next session.
+    fn reopen(&mut self, alloc: Global, stripes: u32) -> Result<(), Memory>
+        requires { MayReopen self.old.history stripes }
+        ensures ok { OnOk result (self.new ≡ reopened self.old self.old.history stripes) }
+        ensures err { OnErr result (self.new ≡ self.old) }
+    {
+        marks_follow_journal();
+        every_schedule_is_legal();
+        let opening = match next_opening(alloc, self.happenings.as_slice(), stripes)? {
+            Some(opening) => opening,
+            None => return Ok(()),
+        };
+        let upkeep = Upkeep::at_opening(alloc, &opening)?;
+        let inside = vec![in alloc; false; stripes as usize]?;
+        let kept = vec![in alloc; 0; 1]?;
+        self.happenings.push(Happening::Opened(opening))?;
+        self.inside = inside;
+        self.kept = kept;
+        self.upkeep = upkeep;
+        Ok(())
     }
 }

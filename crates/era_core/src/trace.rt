@@ -1,6 +1,7 @@
 //! Events of a command that a session is searched for.
 
 ghost use Rattle.std.specs.Prelude.{◌≡◌};
+ghost use Rattle.era_core.specs.Machine.{is_metadata_event};
 ghost use Rattle.era_core.specs.Present.{leaves_trace};
 
 use era_base::CmdId;
@@ -43,5 +44,25 @@ impl Trace {
                 _ => false,
             },
         }
+    }
+}
+
+/// Whether the event is one of the metadata. All are, but for those of the origin's parts.
+pub fn is_metadata_event(event: &Event) -> bool
+    ensures { result ≡ is_metadata_event event.now }
+{
+    match event {
+        Event::Go { .. } => false,
+        Event::Done { .. } => false,
+        Event::Cut { .. } => false,
+        Event::Settle { .. } => false,
+        Event::Unsettled { .. } => false,
+        Event::Read { .. } => false,
+        Event::Refused {
+            id: _,
+            kind: _,
+            why: Why::DataFault { .. },
+        } => false,
+        _ => true,
     }
 }

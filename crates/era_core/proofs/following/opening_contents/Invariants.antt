@@ -1,7 +1,7 @@
 use Rattle.std.proofs.Common.{◌≡◌, ℕ, ◌<◌, [], ◌∷◌, get_or, vec_len}
 use Rattle.era_model.specs.declared.history.Happening.TheVariants.{Opened}
 use Rattle.era_model.specs.History.{content}
-use Rattle.era_core.proofs.machine.opening_contents.Given as goal
+use Rattle.era_core.proofs.following.opening_contents.Given as goal
 
 abbrev pub invariant-loop-block : goal.invariant-loop-block
 invariant-loop-block l = record {
