@@ -18,3 +18,6 @@ pub use laws::{
 };
 pub use opened::{Opened, SlotError, SlotRefusal};
 pub use slots::Slots;
+
+#[cfg(test)]
+mod tests;
