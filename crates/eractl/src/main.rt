@@ -2,6 +2,10 @@
 //! answers; why a file or a stream failed first stands on standard error.
 #![tactic(auto)]
 
+ghost use Rattle.std.specs.Prelude.{◌≡◌, ◌≢◌, ◌⊎◌, ℕ, List, ◌++◌, Some};
+ghost use Rattle.era_base.specs.Streams.{GivesFront};
+ghost use Rattle.era_top.specs.Top.{EndsBySink};
+
 use era_base::Sink;
 use era_disks::{FileBay, FreePace, StdSink, StdSource};
 use era_top::era_top;
@@ -57,8 +61,17 @@ fn words_of<R: env::Env + AllocGlobal>(rt: &R) -> Result<Vec<String>, NoWords> {
     }
 }
 
-/// Gives an answer that needs no device: the status, or that of a failed sink.
-fn answer<K: Sink>(sink: &mut K, text: &str, status: u8) -> u8 {
+/// Gives an answer that needs no device: the status where all of the text was given; 8 exactly where the sink failed,
+/// whose count of faults rose, after a front of the text.
+fn answer<K: Sink>(sink: &mut K, text: &str, status: u8) -> u8
+    requires { status ≢ 8 }
+    ensures number { (result ≡ status) ⊎ (result ≡ 8) }
+    ensures given { (before : List ℕ) → K.given sink.old ≡ Some before → result ≡ status
+        → K.given sink.new ≡ Some (before ++ text.now) }
+    ensures front { (before : List ℕ) → K.given sink.old ≡ Some before → result ≡ 8
+        → GivesFront before text.now (K.given sink.new) }
+    ensures sink { EndsBySink (K.faults sink.old) (K.faults sink.new) result }
+{
     match sink.give(text.as_bytes()) {
         Ok(()) => status,
         Err(_) => 8,
