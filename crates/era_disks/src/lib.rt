@@ -3,8 +3,6 @@
 
 mod bay_calls;
 mod call_list;
-#[cfg(test)]
-mod crash_tests;
 mod device;
 mod disk_calls;
 mod failing_give;
@@ -12,8 +10,6 @@ mod fault_count;
 mod file_bay;
 mod file_disk;
 mod free_pace;
-#[cfg(test)]
-mod host_tests;
 mod image_file;
 mod loan_entry;
 mod loans;
@@ -23,8 +19,6 @@ mod mem_state;
 mod past;
 mod plain_disk;
 mod plain_past;
-#[cfg(test)]
-mod plain_tests;
 mod rows;
 mod std_streams;
 mod tear;

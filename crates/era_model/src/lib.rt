@@ -21,10 +21,6 @@ mod plain_calls;
 mod reply;
 mod session_laws;
 mod set_list;
-#[cfg(test)]
-mod tests;
-#[cfg(test)]
-mod tests_of_plain_calls;
 
 pub use block_content::{follow_content, opening_content};
 pub use block_runs::runs_of_flags;

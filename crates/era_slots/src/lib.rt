@@ -18,6 +18,3 @@ pub use laws::{
 };
 pub use opened::{Opened, SlotError, SlotRefusal};
 pub use slots::Slots;
-
-#[cfg(test)]
-mod tests;

@@ -3,11 +3,11 @@
 ghost use Rattle.std.specs.Prelude.{◌≤◌, IfOk};
 ghost use Rattle.era_model.specs.PlainCalls.{TellsAllBytes};
 
-use crate::{
+use era_base::{Bytes, CmdId, Geometry, Memory, Runs};
+use era_model::{
     Contents, Entry, EntryList, EraRuns, Event, Journal, Marks, Opening, SetList, asked_since,
     changed_since, content_at,
 };
-use era_base::{Bytes, CmdId, Geometry, Memory, Runs};
 use std::alloc::Global;
 use std::test::*;
 

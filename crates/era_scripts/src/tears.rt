@@ -1,7 +1,7 @@
 //! Small scripts of calls, and the images that each tear leaves of them, which are written down by hand.
 
-use crate::{DiskCall, MemBay, MemDisk, Tear};
 use era_base::Disk;
+use era_disks::{DiskCall, MemBay, MemDisk, Tear};
 use std::alloc::Global;
 use std::test::Fail;
 

@@ -1,7 +1,7 @@
 //! One list of each kind, filled and read.
 
-use crate::{Entry, EntryList, EraRuns, Event, MarkedSet, SetList};
 use era_base::{CmdId, Runs};
+use era_model::{Entry, EntryList, EraRuns, Event, MarkedSet, SetList};
 use std::test::*;
 
 #[test]

@@ -4,9 +4,9 @@ ghost use Rattle.std.specs.Prelude.{◌≡◌, ◌+◌, ◌^◌, ◌<◌, ◌≤
 ghost use Rattle.era_disks.specs.MemDisk.{history_of, sectors_of};
 ghost use Rattle.era_slots.specs.Opening.{SlotsStand};
 
-use crate::{Opened, SlotError, Slots};
 use era_base::{Disk, Memory};
 use era_disks::{DiskCall, MemDisk, Tear};
+use era_slots::{Opened, SlotError, Slots};
 use std::alloc::Global;
 use std::test::Fail;
 

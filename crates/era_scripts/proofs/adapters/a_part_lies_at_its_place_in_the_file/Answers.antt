@@ -1,6 +1,6 @@
 use Rattle.std.proofs.Common.{refl}
 use Rattle.era_base.specs.Bay.{new_loan}
-use Rattle.era_disks.proofs.host_tests.a_part_lies_at_its_place_in_the_file.Goals as goal
+use Rattle.era_scripts.proofs.adapters.a_part_lies_at_its_place_in_the_file.Goals as goal
 
 -- the one loan is that of the disk, whose calls kept its place
 pub put_back-requires : goal.put_back-requires

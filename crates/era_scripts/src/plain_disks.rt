@@ -1,7 +1,7 @@
 //! A disk that never fails, and a sink with room.
 
-use crate::{PlainDisk, TextSink};
 use era_base::{Disk, Sink};
+use era_disks::{PlainDisk, TextSink};
 use std::test::Fail;
 
 #[test]

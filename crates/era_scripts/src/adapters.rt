@@ -1,7 +1,7 @@
 //! Each adapter on a real file or stream.
 
-use crate::{FileBay, FileDisk, StdSink, StdSource};
 use era_base::{Bay, BayError, Disk, Failed, Name, Sink, Source};
+use era_disks::{FileBay, FileDisk, StdSink, StdSource};
 use std::fs::{File, OpenOptions};
 use std::test::Fail;
 use std::{env, fs, io, process};

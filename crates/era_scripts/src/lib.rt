@@ -1,0 +1,15 @@
+//! Scripts over the parts below the program: small lists of calls or steps, and what they leave.
+#![tactic(auto)]
+
+#[cfg(test)]
+mod adapters;
+#[cfg(test)]
+mod plain_calls;
+#[cfg(test)]
+mod plain_disks;
+#[cfg(test)]
+mod slot_commits;
+#[cfg(test)]
+mod small_lists;
+#[cfg(test)]
+mod tears;
