@@ -5,4 +5,5 @@ pub mod RowParts
 pub mod SyncedRows
 pub mod TornRows
 pub mod States
+pub mod Replay
 mod ImageSizes

@@ -1,7 +1,7 @@
 -- What sectors were at the last sync stays, where a part of them is marked or written.
-use Rattle.std.proofs.Common.{◌≡◌, ℕ, ◌+◌, ◌-◌, ◌≤◌, Bool, true, List, [], ◌∷◌, ◌++◌, length, take, drop, replicate, arith, refl, sym, ◌∙◌, ap}
+use Rattle.std.proofs.Common.{◌≡◌, ℕ, ◌+◌, ◌≤◌, Bool, true, List, [], ◌∷◌, ◌++◌, length, take, drop, replicate, arith, refl, sym, ◌∙◌, ap}
 use Rattle.std.specs.Prelude.{Option}
-use Rattle.std.proofs.lemmas.List.{take-append-drop, length-take-le, length-drop, length-replicate}
+use Rattle.std.proofs.lemmas.List.{take-append-drop, length-take-le, length-replicate}
 use borrow.Rule.Slice.PartMut.{put_mid}
 use Rattle.era_disks.specs.Tears.{synced_row, synced_rows}
 use Rattle.era_disks.proofs.RowParts.{length-part}

@@ -1,10 +1,9 @@
 -- What a crash leaves of rows is an image of their state.
-use Rattle.std.proofs.Common.{◌≡◌, ℕ, zero, suc, ◌+◌, ◌-◌, ◌*◌, ◌/◌, ◌<◌, ◌≤◌, Bool, true, false, List, [], ◌∷◌, ◌++◌, length, take, drop, replicate, slice_index_or, arith, refl, sym, ◌∙◌, ap, subst, inl, inr, length-append}
-use Rattle.std.specs.Prelude.{Option, Some, None, slice_index}
+use Rattle.std.proofs.Common.{◌≡◌, ℕ, suc, ◌-◌, ◌/◌, ◌<◌, ◌≤◌, Bool, true, false, List, [], ◌∷◌, length, replicate, slice_index_or, arith, refl, sym, ◌∙◌, ap, subst, inl, inr, length-append}
+use Rattle.std.specs.Prelude.{Option, slice_index}
 use Rattle.std.proofs.lemmas.Bool.{cases_lt}
 use Rattle.std.proofs.lemmas.List.{get_or_append_left, get_or-append_right, get_or-replicate, length-replicate}
-use borrow.Rule.Slice.PartMut.{put_mid}
-use Rattle.era_base.specs.CrashModel.{State, IsCrashImage, is_pending}
+use Rattle.era_base.specs.CrashModel.{IsCrashImage}
 use Rattle.era_disks.specs.Rows.{sector_bytes, bytes_of, length-sector_bytes, length-bytes_of, sector_bytes-full}
 use Rattle.era_disks.specs.Tears.{synced_row, synced_rows, torn_row, torn_rows, KeepsClean, IsFilled}
 use Rattle.era_disks.specs.declared.tear.Tear.{Tear}

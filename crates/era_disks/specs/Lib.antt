@@ -1,5 +1,7 @@
 pub mod Calls
 pub mod DiskCalls
+pub mod CallRecord
+pub mod Fuses
 pub mod BayCalls
 pub mod Devices
 pub mod Loans

@@ -5,7 +5,8 @@ use Rattle.era_disks.specs.Loans.{loans_of}
 use Rattle.era_disks.specs.Devices.{device_of, device_reads, device_size, device_state, device_calls, IsFoundAt}
 use Rattle.era_disks.specs.Calls.{Calls, NextFails}
 use Rattle.era_disks.specs.DiskCalls.{no_disk_calls, restarted_calls}
-use Rattle.era_disks.specs.MemDisk.{place_of, sectors_of, faults_of, starved_of}
+use Rattle.era_disks.specs.Fuses.{SameFuse}
+use Rattle.era_disks.specs.MemDisk.{place_of, sectors_of, faults_of, starved_of, HasNewRecord}
 use Rattle.era_disks.specs.declared.disk_calls.DiskCalls.{DiskCalls}
 use Rattle.era_disks.specs.declared.mem_disk.MemDisk.{MemDisk}
 use Rattle.era_disks.specs.declared.mem_bay.MemBay.{MemBay}
@@ -49,11 +50,13 @@ state_in bay name = device_state (device_of bay.devices.items name)
 abbrev pub IsIdle : MemBay → List ℕ → Type 0
 IsIdle bay name = (size : ℕ) → sizes_of bay name ≡ Some size → IsFree place_of sectors_of (bay_loans bay) name 0 size
 
--- A disk that was just lent: the calls of its device fail and none was begun, and it has not failed.
+-- A disk that was just lent: the calls of its device fail and none was begun, it has not failed, and it knows of the fuse what the bay does.
 pub record IsFresh (bay : MemBay) (name : List ℕ) (disk : MemDisk) : Type 0 where
   pub calls : (calls : DiskCalls) → calls_of bay name ≡ Some calls → disk.calls ≡ restarted_calls calls
   pub faults : faults_of disk ≡ 0
   pub starved : starved_of disk ≡ 0
+  pub fuse : SameFuse bay.fuse disk.fuse
+  pub made : HasNewRecord disk
 
 -- So many sectors from a sector on lie on the device at an index of the bay's devices.
 pub record LiesAt (bay : MemBay) (name : List ℕ) (index first sectors : ℕ) : Type 0 where

@@ -1,5 +1,5 @@
 -- What sectors were at the last sync, and what a crash leaves of pending ones.
-use Rattle.std.specs.Prelude.{⊤, ◌≡◌, ℕ, ◌<◌, Bool, true, false, List, [], ◌∷◌, length, replicate, slice_index, Option, Some, None}
+use Rattle.std.specs.Prelude.{◌≡◌, ℕ, ◌<◌, Bool, true, false, List, [], ◌∷◌, length, replicate, slice_index, Option, Some, None}
 use Rattle.era_base.specs.CrashModel.{State, is_pending}
 use Rattle.era_disks.specs.declared.tear.Tear.{Tear}
 use Rattle.era_disks.specs.declared.tear.Tear.TheVariants.{Keep, Old, Fill}

@@ -3,12 +3,13 @@
 ghost use Rattle.std.specs.Prelude.{◌≡◌, ◌≢◌, [], ◌∷◌, ◌++◌, ◌+◌, ◌≤◌, length, take, drop, position, Some, None, IfSome, IfNone, IfOk, OnOk, OnErr};
 ghost use Rattle.era_disks.specs.Devices.{IsFoundAt, device_of, has_name};
 ghost use Rattle.era_disks.specs.DiskCalls.{no_disk_calls, also_failing_call, restarted_calls};
-ghost use Rattle.era_disks.specs.MemDisk.{place_of, sectors_of, faults_of, starved_of};
+ghost use Rattle.era_disks.specs.MemDisk.{place_of, sectors_of, faults_of, starved_of, HasNewRecord};
 ghost use Rattle.era_disks.specs.Crashed.{Crashes};
 ghost use Rattle.era_disks.specs.Rows.{bytes_of};
 ghost use borrow.Rule.Slice.PartMut.{put_mid};
 
 use crate::disk_calls::{DiskCall, DiskCalls};
+use crate::fuse::FuseEnd;
 use crate::mem_disk::MemDisk;
 use crate::mem_state::MemState;
 use crate::rows::{append_row, copy_kept, copy_rows};
@@ -25,14 +26,21 @@ pub struct Device {
 }
 
 impl Device {
-    /// Copies `sectors` sectors from sector `first` on into a disk.
-    pub fn lend(&self, alloc: Global, first: u64, sectors: u64) -> Result<MemDisk, Memory>
+    /// Copies `sectors` sectors from sector `first` on into a disk with this end of a fuse, if any.
+    pub fn lend(
+        &self,
+        alloc: Global,
+        first: u64,
+        sectors: u64,
+        fuse: Option<FuseEnd>,
+    ) -> Result<MemDisk, Memory>
         requires { first + sectors ≤ length self.now.state.rows.items }
         ensures place { IfOk result (λ disk. place_of disk ≡ record { device = self.now.name; first = first }) }
         ensures rows { IfOk result (λ disk. disk.state.rows.items ≡ take sectors (drop first self.now.state.rows.items)) }
         ensures size { IfOk result (λ disk. sectors_of disk ≡ sectors) }
         ensures calls { IfOk result (λ disk. disk.calls ≡ restarted_calls self.now.calls) }
-        ensures fresh { IfOk result (λ disk. (faults_of disk ≡ 0) × (starved_of disk ≡ 0)) }
+        ensures fresh { IfOk result (λ disk. (faults_of disk ≡ 0) × (starved_of disk ≡ 0) × HasNewRecord disk) }
+        ensures fuse { IfOk result (λ disk. disk.fuse ≡ fuse) }
     {
         let from = first as usize;
         let to = from + sectors as usize;
@@ -46,7 +54,7 @@ impl Device {
             pending,
             kept,
         };
-        Ok(MemDisk::of(alloc, device, first, state, calls))
+        Ok(MemDisk::of(alloc, device, first, state, calls, fuse))
     }
 
     /// The number of sectors.

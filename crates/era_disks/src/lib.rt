@@ -2,17 +2,22 @@
 #![tactic(auto)]
 
 mod bay_calls;
+mod bay_setup;
 mod call_list;
+mod call_record;
 mod device;
 mod disk_calls;
 mod failing_give;
+mod failure_counts;
 mod fault_count;
 mod file_bay;
 mod file_disk;
 mod free_pace;
+mod fuse;
 mod image_file;
 mod loan_entry;
 mod loans;
+mod made_call;
 mod mem_bay;
 mod mem_disk;
 mod mem_state;
@@ -27,14 +32,18 @@ mod text_source;
 
 pub use bay_calls::{BayCall, BayCalls};
 pub use call_list::CallList;
+pub use call_record::CallRecord;
 pub use disk_calls::{DiskCall, DiskCalls};
 pub use failing_give::FailingGive;
+pub use failure_counts::FailureCounts;
 pub use fault_count::FaultCount;
 pub use file_bay::FileBay;
 pub use file_disk::FileDisk;
 pub use free_pace::FreePace;
+pub use fuse::{Fuse, FuseEnd};
 pub use loan_entry::LoanEntry;
 pub use loans::Loans;
+pub use made_call::MadeCall;
 pub use mem_bay::MemBay;
 pub use mem_disk::MemDisk;
 pub use plain_disk::PlainDisk;

@@ -6,6 +6,7 @@ ghost use Rattle.era_disks.specs.Devices.{LieWithin};
 use crate::bay_calls::{BayCall, BayCalls};
 use crate::device::{Device, find_device};
 use crate::disk_calls::{DiskCall, DiskCalls};
+use crate::fuse::{Fuse, FuseEnd, learn, share};
 use crate::loans::Loans;
 use crate::mem_disk::MemDisk;
 use crate::mem_state::MemState;
@@ -13,15 +14,16 @@ use crate::tear::Tear;
 use era_base::{Bay, BayError, Bytes, Disk, Memory, Name};
 use std::alloc::Global;
 
-/// Devices in memory, by name, the loans of them, and the calls of the bay that fail.
+/// Devices in memory, by name, the loans of them, the calls of the bay that fail, and the fuse of its disks.
 #[derive(Drop)]
 pub struct MemBay {
-    alloc: Global,
-    devices: Vec<Device>,
-    loans: Loans<MemDisk>,
-    calls: BayCalls,
-    faults: u64,
-    ghost within: { LieWithin devices.items (loans_of loans.entries.items) },
+    pub alloc: Global,
+    pub devices: Vec<Device>,
+    pub loans: Loans<MemDisk>,
+    pub calls: BayCalls,
+    pub fuse: Option<FuseEnd>,
+    pub faults: u64,
+    pub ghost within: { LieWithin devices.items (loans_of loans.entries.items) },
 }
 
 impl MemBay {
@@ -34,99 +36,24 @@ impl MemBay {
     ghost use Rattle.era_disks.specs.declared.disk_calls.DiskCalls.{DiskCalls};
     ghost use Rattle.era_disks.specs.MemBay.{sizes_of, reads_of, bay_loans, bay_faults, calls_of, state_in, SameCalls, ForgetsCalls, IsIdle, IsFresh, IsRefusedAt, LiesAt};
     ghost use Rattle.era_disks.specs.Crashed.{Crashes};
+    ghost use Rattle.era_disks.specs.Fuses.{IsUnburnt, LearnsFuse};
     ghost use Rattle.era_disks.specs.declared.mem_state.MemState.{MemState};
     ghost use Rattle.era_disks.specs.Devices.{IsFoundAt, device_of, device_length};
 
-    /// A bay that holds no device, and of which no call fails. It takes no memory.
+    /// A bay that holds no device, has no fuse, and of which no call fails. It takes no memory.
     pub fn new(alloc: Global) -> MemBay
         ensures none { (name : List ℕ) → sizes_of result name ≡ None }
         ensures loans { bay_loans result ≡ [] }
         ensures faults { bay_faults result ≡ 0 }
-        ensures calls { result.calls ≡ no_bay_calls }
+        ensures calls { (result.calls ≡ no_bay_calls) × (result.fuse ≡ None) }
     {
         MemBay {
             alloc,
             devices: Vec::new(alloc),
             loans: Loans::new(alloc),
             calls: BayCalls::new(alloc),
+            fuse: None,
             faults: 0,
-        }
-    }
-
-    /// Adds a device of zeros.
-    pub fn add(&mut self, name: &str, sectors: u64) -> Result<(), Memory>
-        requires { sizes_of self.old name.now ≡ None }
-        ensures size { OnOk result (sizes_of self.new name.now ≡ Some sectors) }
-        ensures zeros { OnOk result (HasContent (reads_of self.new) name.now sectors (replicate (sectors * 512) 0)) }
-        ensures calls { OnOk result (calls_of self.new name.now ≡ Some no_disk_calls) }
-        ensures others { (other : List ℕ) → (other ≡ name.now → ⊥) → (sizes_of self.new other ≡ sizes_of self.old other)
-            × ((sector : ℕ) → reads_of self.new other sector ≡ reads_of self.old other sector)
-            × (calls_of self.new other ≡ calls_of self.old other) }
-        ensures err { OnErr result (self.new.devices.items ≡ self.old.devices.items) }
-        ensures rest { (bay_loans self.new ≡ bay_loans self.old) × (bay_faults self.new ≡ bay_faults self.old)
-            × (self.new.calls ≡ self.old.calls) }
-    {
-        let device = Device {
-            name: Name::from_text(self.alloc, name)?,
-            state: MemState::new(self.alloc, sectors as usize)?,
-            calls: DiskCalls::new(self.alloc),
-        };
-        self.devices.push(device)?;
-        Ok(())
-    }
-
-    /// The bytes of a device that the bay holds.
-    pub fn content(&self, alloc: Global, name: &str) -> Result<Option<Bytes>, Memory>
-        ensures held { IfOk result (λ held. IfSome held (λ bytes. (sectors : ℕ) → sizes_of self.now name.now ≡ Some sectors
-            → HasContent (reads_of self.now) name.now sectors bytes)) }
-        ensures none { IfOk result (λ held. IfNone held (sizes_of self.now name.now ≡ None)) }
-    {
-        match find_device(self.devices.as_slice(), name) {
-            Some(index) => Ok(Some(self.devices[index].content(alloc)?)),
-            None => Ok(None),
-        }
-    }
-
-    /// From now on the call of the bay of this kind with this number fails. Each kind is counted from 0.
-    pub fn fail(&mut self, call: BayCall, number: u64) -> Result<(), Memory>
-        ensures ok { OnOk result (self.new ≡ record self.old { calls = also_failing_at call number self.old.calls }) }
-        ensures err { OnErr result (self.new ≡ self.old) }
-    {
-        self.calls.fail(call, number)
-    }
-
-    /// From now on, until a disk of the device is put back, the call of this kind with this number fails in each disk
-    /// of it that is lent. Each kind of calls of a disk is counted from 0. A name that the bay doesn't hold changes nothing.
-    pub fn fail_disk(&mut self, name: &str, call: DiskCall, number: u64) -> Result<(), Memory>
-        ensures listed { (calls : DiskCalls) → calls_of self.old name.now ≡ Some calls
-            → OnOk result (calls_of self.new name.now ≡ Some (also_failing_call call number calls)) }
-        ensures others { (other : List ℕ) → (other ≡ name.now → ⊥) → calls_of self.new other ≡ calls_of self.old other }
-        ensures err { OnErr result (SameCalls self.old self.new) }
-        ensures sizes { (other : List ℕ) → sizes_of self.new other ≡ sizes_of self.old other }
-        ensures reads { (other : List ℕ) (sector : ℕ) → reads_of self.new other sector ≡ reads_of self.old other sector }
-        ensures rest { (bay_loans self.new ≡ bay_loans self.old) × (bay_faults self.new ≡ bay_faults self.old)
-            × (self.new.calls ≡ self.old.calls) }
-    {
-        match find_device(self.devices.as_slice(), name) {
-            Some(index) => self.devices[index].fail(call, number),
-            None => Ok(()),
-        }
-    }
-
-    /// Turns a device into one of its crash images. A name that the bay doesn't hold changes nothing. Where memory is
-    /// refused, which may be so for `Fill` alone, some of the pending sectors are torn, and all still pend.
-    pub fn crash(&mut self, name: &str, tear: Tear) -> Result<(), Memory>
-        requires idle { IsIdle self.old name.now }
-        ensures torn { (before : MemState) → state_in self.old name.now ≡ Some before
-            → (after : MemState) × (state_in self.new name.now ≡ Some after) × Crashes tear before after result }
-        ensures sizes { (other : List ℕ) → sizes_of self.new other ≡ sizes_of self.old other }
-        ensures others { (other : List ℕ) → (other ≡ name.now → ⊥) → state_in self.new other ≡ state_in self.old other }
-        ensures rest { (bay_loans self.new ≡ bay_loans self.old) × (bay_faults self.new ≡ bay_faults self.old) }
-        ensures calls { (self.new.calls ≡ self.old.calls) × ((other : List ℕ) → calls_of self.new other ≡ calls_of self.old other) }
-    {
-        match find_device(self.devices.as_slice(), name) {
-            Some(index) => self.devices[index].crash(self.alloc, tear),
-            None => Ok(()),
         }
     }
 
@@ -166,11 +93,13 @@ impl MemBay {
         ensures fresh { IfOk result (λ disk. IsFresh self.old name.now disk) }
         ensures loans { IfOk result (λ disk. bay_loans self.new ≡ bay_loans self.old ++ new_loan disk ∷ []) }
         ensures err { OnErr result (bay_loans self.new ≡ bay_loans self.old) }
-        ensures rest { (self.new.devices ≡ self.old.devices) × (bay_faults self.new ≡ bay_faults self.old) × (self.new.calls ≡ self.old.calls) }
+        ensures rest { (self.new.devices ≡ self.old.devices) × (bay_faults self.new ≡ bay_faults self.old)
+            × (self.new.calls ≡ self.old.calls) × (self.new.fuse ≡ self.old.fuse) }
     {
         self.loans.reserve()?;
         let device = Name::from_text(self.alloc, name)?;
-        let disk = self.devices[index].lend(self.alloc, first, sectors)?;
+        let fuse = share(&self.fuse, self.alloc)?;
+        let disk = self.devices[index].lend(self.alloc, first, sectors, fuse)?;
         self.loans.begin(device, first, &disk);
         Ok(disk)
     }
@@ -190,7 +119,7 @@ impl MemBay {
         ensures free { OnOk result (IsFree place_of sectors_of (bay_loans self.old) name.now first sectors) }
         ensures loans { IfOk result (λ disk. bay_loans self.new ≡ bay_loans self.old ++ new_loan disk ∷ []) }
         ensures refused { OnErr result (bay_loans self.new ≡ bay_loans self.old) }
-        ensures rest { (self.new.devices ≡ self.old.devices) × (self.new.calls ≡ self.old.calls) }
+        ensures rest { (self.new.devices ≡ self.old.devices) × (self.new.calls ≡ self.old.calls) × (self.new.fuse ≡ self.old.fuse) }
         ensures cause { HasBayCause (bay_faults self.old) (bay_faults self.new) result
             × (IsErrOf result BayError.Failed → bay_faults self.new ≡ one_more (bay_faults self.old)) }
         ensures why { IsErrOf result BayError.Failed ↔ IsRefusedAt self.old name.now first sectors }
@@ -209,12 +138,13 @@ impl MemBay {
     fn end_loan(&mut self, disk: &MemDisk)
         requires { (index : ℕ) × IsOut place_of sectors_of (bay_loans self.old) (place_of disk.now) (sectors_of disk.now) index }
         ensures loans { EndsLoan place_of sectors_of disk.now (bay_loans self.old) (bay_loans self.new) }
-        ensures rest { (self.new.devices ≡ self.old.devices) × (bay_faults self.new ≡ bay_faults self.old) × (self.new.calls ≡ self.old.calls) }
+        ensures rest { (self.new.devices ≡ self.old.devices) × (bay_faults self.new ≡ bay_faults self.old)
+            × (self.new.calls ≡ self.old.calls) × (self.new.fuse ≡ self.old.fuse) }
     {
         self.loans.end(disk.device.as_str(), disk.first, disk);
     }
 
-    /// Moves the sectors of a disk into its device.
+    /// Moves the sectors of a disk into its device, and learns what it knows of the fuse.
     fn take_in(&mut self, disk: MemDisk)
         requires { disk.first + sectors_of disk ≤ device_length (device_of self.old.devices.items disk.device) }
         ensures content { NowReadsAs (reads_of self.new) disk.device disk.first (sectors_of disk) (history_of disk).now }
@@ -222,13 +152,16 @@ impl MemBay {
         ensures sizes { (name : List ℕ) → sizes_of self.new name ≡ sizes_of self.old name }
         ensures calls { ForgetsCalls disk.device self.old self.new }
         ensures rest { (bay_loans self.new ≡ bay_loans self.old) × (bay_faults self.new ≡ bay_faults self.old) × (self.new.calls ≡ self.old.calls) }
+        ensures fuse { LearnsFuse disk.fuse self.old.fuse self.new.fuse }
     {
         let MemDisk {
             device,
             first,
             state,
+            fuse,
             ..
         } = disk;
+        learn(&mut self.fuse, &fuse);
         match find_device(self.devices.as_slice(), device.as_str()) {
             Some(index) => self.devices[index].take_back(first as usize, state),
             None => {}
@@ -239,6 +172,7 @@ impl MemBay {
 impl Bay for MemBay {
     ghost use Rattle.std.specs.Prelude.{◌≡◌, ◌↔◌, ◌⊎◌, ℕ, ◌+◌, ◌≤◌, [], ◌∷◌, ◌++◌, Some, None, IfOk, OnOk, OnErr, IsErrOf};
     ghost use Rattle.era_base.specs.Bay.{new_loan, ReadsAs, NowReadsAs, SameReads, SameReadsBut, KeepsSizes, IsFree, IsOut, EndsLoan, HasBayCause};
+    ghost use Rattle.era_disks.specs.Fuses.{LearnsFuse};
     ghost use Rattle.era_disks.specs.Calls.{NextFails, one_begun, one_more};
     ghost use Rattle.era_disks.specs.MemDisk.{place_of, sectors_of, history_of};
     ghost use Rattle.era_disks.specs.MemBay.{sizes_of, reads_of, bay_loans, bay_faults, SameCalls, ForgetsCalls, IsFresh, WontLend};
@@ -263,7 +197,7 @@ impl Bay for MemBay {
         ensures refused { IsErrOf result BayError.Failed ↔ (NextFails self.old.calls.sizes ⊎ (sizes_of self.old name.now ≡ None)) }
         ensures never { IsErrOf result BayError.Memory → ⊥ }
         ensures calls { (self.new.calls ≡ record self.old.calls { sizes = one_begun self.old.calls.sizes })
-            × SameCalls self.old self.new }
+            × SameCalls self.old self.new × (self.new.fuse ≡ self.old.fuse) }
     {
         if self.calls.sizes.begin() {
             return self.refuse();
@@ -284,7 +218,7 @@ impl Bay for MemBay {
             × (IsErrOf result BayError.Failed ↔ WontLend self.old.calls.metas self.old name.now 0 (λ size. size)) }
         ensures same { KeepsSizes (sizes_of self.old) (sizes_of self.new) × SameReads (reads_of self.old) (reads_of self.new)
             × (self.new.calls ≡ record self.old.calls { metas = one_begun self.old.calls.metas })
-            × SameCalls self.old self.new }
+            × SameCalls self.old self.new × (self.new.fuse ≡ self.old.fuse) }
         ensures cause { HasBayCause (bay_faults self.old) (bay_faults self.new) result
             × (IsErrOf result BayError.Failed → bay_faults self.new ≡ one_more (bay_faults self.old)) }
     {
@@ -311,7 +245,7 @@ impl Bay for MemBay {
             × (IsErrOf result BayError.Failed ↔ WontLend self.old.calls.parts self.old name.now first (λ _. sectors)) }
         ensures same { KeepsSizes (sizes_of self.old) (sizes_of self.new) × SameReads (reads_of self.old) (reads_of self.new)
             × (self.new.calls ≡ record self.old.calls { parts = one_begun self.old.calls.parts })
-            × SameCalls self.old self.new }
+            × SameCalls self.old self.new × (self.new.fuse ≡ self.old.fuse) }
         ensures cause { HasBayCause (bay_faults self.old) (bay_faults self.new) result
             × (IsErrOf result BayError.Failed → bay_faults self.new ≡ one_more (bay_faults self.old)) }
     {
@@ -332,6 +266,7 @@ impl Bay for MemBay {
         ensures sizes { KeepsSizes (sizes_of self.old) (sizes_of self.new) }
         ensures same { bay_faults self.new ≡ bay_faults self.old }
         ensures calls { ForgetsCalls disk.device self.old self.new }
+        ensures fuse { LearnsFuse disk.fuse self.old.fuse self.new.fuse }
     {
         self.end_loan(&disk);
         self.take_in(disk);

@@ -50,7 +50,7 @@ impl MemState {
         read_rows(&self.rows[first..first + sectors], into);
     }
 
-    /// OnlyMarks sectors as pending.
+    /// Marks sectors as pending.
     pub fn mark(&mut self, first: usize, sectors: usize)
         requires { first + sectors ≤ length self.old.rows.items }
         ensures rows { self.new.rows.items ≡ self.old.rows.items }

@@ -4,6 +4,8 @@
 #[cfg(test)]
 mod adapters;
 #[cfg(test)]
+mod fuses;
+#[cfg(test)]
 mod plain_calls;
 #[cfg(test)]
 mod plain_disks;

@@ -1,4 +1,4 @@
-use Rattle.std.proofs.Common.{◌≡◌, length, take}
+use Rattle.std.proofs.Common.{◌≡◌, take}
 use Rattle.era_disks.proofs.rows.copy_kept.Given as goal
 
 abbrev pub invariant-loop-old : goal.invariant-loop-old

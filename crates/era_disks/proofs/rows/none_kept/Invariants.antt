@@ -1,4 +1,4 @@
-use Rattle.std.proofs.Common.{◌≡◌, length, take}
+use Rattle.std.proofs.Common.{◌≡◌, length}
 use Rattle.era_disks.proofs.rows.none_kept.Given as goal
 
 abbrev pub invariant-loop-sector : goal.invariant-loop-sector

@@ -1,10 +1,8 @@
-use Rattle.std.proofs.Common.{◌≡◌, ◌+◌, ◌≤◌, ℕ, List, length, Some, arith, refl, sym, ◌∙◌, ap, subst}
-use Rattle.std.specs.Prelude.{Option}
+use Rattle.std.proofs.Common.{◌≡◌, ℕ, length, Some, arith, refl, sym, ◌∙◌, ap, subst}
 use Rattle.std.proofs.lemmas.Option.{same_Some}
 use Rattle.era_disks.specs.Crashed.{Crashes}
 use Rattle.era_disks.specs.Devices.{device_size, device_state, device_length, device_calls}
 use Rattle.era_disks.specs.declared.device.Device.{Device}
-use Rattle.era_disks.specs.declared.mem_state.MemState.{MemState}
 use Rattle.era_disks.specs.declared.disk_calls.DiskCalls.{DiskCalls}
 use Rattle.era_disks.proofs.FirstDevice.{found-along, found-device, same-told, set-named}
 use Rattle.era_disks.proofs.mem_bay.MemBay.crash.Goals as goal

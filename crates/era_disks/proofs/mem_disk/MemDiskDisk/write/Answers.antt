@@ -1,36 +1,47 @@
-use Rattle.std.proofs.Common.{true, Bool, List, slice_index_or, ◌/◌, arith, ◌∙◌, ap}
-use Rattle.era_base.specs.CrashModel.{is_pending}
-use Rattle.era_disks.specs.MemDisk.{state_of, synced_in}
-use Rattle.era_disks.specs.declared.mem_disk.MemDisk.{MemDisk}
+use Rattle.std.proofs.Common.{◌/◌, false, ◌++◌, ◌∷◌, [], List, length, ◌∙◌, ap}
+use Rattle.era_disks.specs.Rows.{bytes_of}
+use Rattle.era_disks.specs.declared.made_call.MadeCall.{MadeCall}
+use Rattle.era_disks.specs.declared.made_call.MadeCall.TheVariants.{Write}
+use Rattle.era_disks.proofs.Replay.{replayed-write}
 use Rattle.era_disks.proofs.mem_disk.MemDiskDisk.write.Goals as goal
 
-pub returns-then-begin-clause-marked : goal.returns-then-begin-clause-marked
-returns-then-begin-clause-marked c = (
-  record {
-    marked = λ offset above below. ap (λ (disk : MemDisk). is_pending (state_of disk.state) offset) c.refuse.ensures.counted
-        ∙ c.mark.ensures.marked offset above (omega arith);
-    others = λ offset outside. ap (λ (disk : MemDisk). is_pending (state_of disk.state) offset) c.refuse.ensures.counted
-        ∙ c.mark.ensures.marks.others offset (λ above. omega (arith, outside above));
-  },
-  ap synced_in c.refuse.ensures.counted ∙ c.mark.ensures.synced,
-)
+pub invariant_of-self-then-not-answers : goal.invariant_of-self-then-not-answers
+invariant_of-self-then-not-answers c =
+    let old = c.args.self.now in
+    let marked = c.mark.new.self in
+    let sectors = length c.args.bytes.now / 512 in
+    let call : MadeCall = Write c.args.first sectors false in
+    record {
+      replayed = replayed-write old.began.value.items old.state.pending.items marked.pending.items (bytes_of old.state.rows.items) (bytes_of marked.rows.items)
+          old.made.calls.items c.add.new.self.calls.items c.args.first sectors false old.replayed
+          (c.add.ensures ∙ ap (λ (calls : List MadeCall). calls ++ call ∷ []) c.reserve.ensures.same)
+          c.mark.ensures.same.flags c.mark.ensures.marked c.mark.ensures.marks;
+    }
 
-pub returns-in-Ok-clause-marked : goal.returns-in-Ok-clause-marked
-returns-in-Ok-clause-marked c = (
-  record {
-    marked = λ offset above below. ap (λ (flags : List Bool). slice_index_or flags (offset / 512) true) c.put.ensures.pending ∙ c.mark.ensures.marked offset above (omega arith);
-    others = λ offset outside. ap (λ (flags : List Bool). slice_index_or flags (offset / 512) true) c.put.ensures.pending ∙ c.mark.ensures.marks.others offset (λ above. omega (arith, outside above));
-  },
-  c.put.ensures.synced ∙ c.mark.ensures.synced,
-)
+pub invariant_of-self-in-Ok-put : goal.invariant_of-self-in-Ok-put
+invariant_of-self-in-Ok-put c =
+    let old = c.args.self.now in
+    let marked = c.mark.new.self in
+    let sectors = length c.args.bytes.now / 512 in
+    let call : MadeCall = Write c.args.first sectors c.is_ok.result in
+    record {
+      replayed = rw c.put-put.ensures.pending (replayed-write old.began.value.items old.state.pending.items marked.pending.items
+          (bytes_of old.state.rows.items) (bytes_of marked.rows.items)
+          old.made.calls.items c.add-2.new.self.calls.items c.args.first sectors c.is_ok.result old.replayed
+          (c.add-2.ensures ∙ ap (λ (calls : List MadeCall). calls ++ call ∷ []) c.reserve.ensures.same)
+          c.mark.ensures.same.flags c.mark.ensures.marked c.mark.ensures.marks);
+    }
 
-pub returns-in-Err-clause-marked : goal.returns-in-Err-clause-marked
-returns-in-Err-clause-marked c = (
-  record {
-    marked = λ offset above below. ap (λ (disk : MemDisk). is_pending (state_of disk.state) offset) c.refuse-in-Err.ensures.counted
-        ∙ ap (λ (flags : List Bool). slice_index_or flags (offset / 512) true) c.put.ensures.pending ∙ c.mark.ensures.marked offset above (omega arith);
-    others = λ offset outside. ap (λ (disk : MemDisk). is_pending (state_of disk.state) offset) c.refuse-in-Err.ensures.counted
-        ∙ ap (λ (flags : List Bool). slice_index_or flags (offset / 512) true) c.put.ensures.pending ∙ c.mark.ensures.marks.others offset (λ above. omega (arith, outside above));
-  },
-  ap synced_in c.refuse-in-Err.ensures.counted ∙ c.put.ensures.synced ∙ c.mark.ensures.synced,
-)
+pub invariant_of-self-in-Err : goal.invariant_of-self-in-Err
+invariant_of-self-in-Err c =
+    let old = c.args.self.now in
+    let marked = c.mark.new.self in
+    let sectors = length c.args.bytes.now / 512 in
+    let call : MadeCall = Write c.args.first sectors c.is_ok.result in
+    record {
+      replayed = rw c.put-put.ensures.pending (replayed-write old.began.value.items old.state.pending.items marked.pending.items
+          (bytes_of old.state.rows.items) (bytes_of marked.rows.items)
+          old.made.calls.items c.add-2.new.self.calls.items c.args.first sectors c.is_ok.result old.replayed
+          (c.add-2.ensures ∙ ap (λ (calls : List MadeCall). calls ++ call ∷ []) c.reserve.ensures.same)
+          c.mark.ensures.same.flags c.mark.ensures.marked c.mark.ensures.marks);
+    }
