@@ -63,16 +63,18 @@ fn a_fuse_stops_a_disk_at_its_write(rt: HostRuntime) -> Result<(), Fail> {
     Ok(())
 }
 
+/// The heads that a crash with this tear leaves of the stopped disk.
+fn left_by(alloc: Global, tear: Tear) -> Result<Option<[u8; 4]>, Memory> {
+    let mut disk = stopped(alloc)?;
+    disk.crash(tear)?;
+    Ok(heads(&mut disk))
+}
+
 #[test]
 fn a_stopped_disk_is_torn_at_its_write(rt: HostRuntime) -> Result<(), Fail> {
-    let left = |tear| -> Result<Option<[u8; 4]>, Memory> {
-        let mut disk = stopped(rt.alloc())?;
-        disk.crash(tear)?;
-        Ok(heads(&mut disk))
-    };
-    assert!(rt; left(Tear::Keep)? == Some([1, 2, 2, 0]));
-    assert!(rt; left(Tear::Old)? == Some([1, 2, 2, 0]));
-    assert!(rt; left(Tear::Fill(9))? == Some([1, 9, 9, 9]));
+    assert!(rt; left_by(rt.alloc(), Tear::Keep)? == Some([1, 2, 2, 0]));
+    assert!(rt; left_by(rt.alloc(), Tear::Old)? == Some([1, 2, 2, 0]));
+    assert!(rt; left_by(rt.alloc(), Tear::Fill(9))? == Some([1, 9, 9, 9]));
     Ok(())
 }
 
