@@ -110,6 +110,9 @@ impl<D: Disk> Slots<D> {
         requires block { block * 8 + 8 ≤ D.sectors self.old.disk }
         requires size { length into.old ≡ 4096 }
         ensures moments { D.tells ≡ true → Went (λ before now. now ≡ before) (D.history self.old.disk) (D.history self.new.disk) }
+        ensures stands { D.tells ≡ true
+            → Stands self.old.target self.old.number self.old.may_be_open (D.history self.old.disk).now
+            → Stands self.new.target self.new.number self.new.may_be_open (D.history self.new.disk).now }
         ensures read { D.tells ≡ true → OnOk result (into.new ≡ page_of block (D.history self.old.disk).now.seen) }
         ensures calls { D.tells ≡ true → clock (D.history self.new.disk) ≡ clock (D.history self.old.disk) + 1 }
         ensures same { (self.new.target ≡ self.old.target) × (self.new.number ≡ self.old.number) × (self.new.may_be_open ≡ self.old.may_be_open) }
