@@ -50,6 +50,13 @@ impl CallList {
         fails
     }
 
+    /// How many calls were begun, up to the greatest value of a `u64`.
+    pub fn begun(&self) -> u64
+        ensures { result ≡ self.now.begun }
+    {
+        self.begun
+    }
+
     /// Calls of which the same ones fail, and none was begun.
     pub fn restart(&self, alloc: Global) -> Result<CallList, Memory>
         ensures { IfOk result (λ calls. calls ≡ restarted self.now) }

@@ -10,7 +10,15 @@ mod plain_calls;
 #[cfg(test)]
 mod plain_disks;
 #[cfg(test)]
+mod slot_calls;
+#[cfg(test)]
 mod slot_commits;
+#[cfg(test)]
+mod slot_disks;
+#[cfg(test)]
+mod slot_subsets;
+#[cfg(test)]
+mod slot_wipes;
 #[cfg(test)]
 mod small_lists;
 #[cfg(test)]

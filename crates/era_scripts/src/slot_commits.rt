@@ -1,118 +1,21 @@
-//! Slots over a disk in memory of 57 metadata blocks.
+//! Commits on the slots of a disk in memory, and what is found after a crash at each write and each sync of three.
 
-ghost use Rattle.std.specs.Prelude.{◌≡◌, ◌+◌, ◌^◌, ◌<◌, ◌≤◌, IfOk, IfSome, OnOk};
-ghost use Rattle.era_disks.specs.MemDisk.{history_of, sectors_of};
-ghost use Rattle.era_slots.specs.Opening.{SlotsStand};
-
+use crate::slot_disks::{
+    FIRST, SECOND, SECOND_ALONE, Seen, THIRD, blank, cut_at, opening_of, stored_twice,
+};
 use era_base::{Disk, Memory};
-use era_disks::{DiskCall, MemDisk, Tear};
-use era_slots::{Opened, SlotError, Slots};
+use era_disks::{DiskCall, Tear};
+use era_slots::SlotError;
 use std::alloc::Global;
 use std::test::Fail;
 
-/// What an opening gave: of a body its first byte.
-#[derive(Clone, Copy, Debug, PartialEq, Eq)]
-enum Seen {
-    Blank,
-    Whole {
-        active: u32,
-        sequence: u64,
-        body: Option<u8>,
-        other: Option<u8>,
-    },
-    Refused(SlotError),
-}
-
-/// A blank disk of 57 metadata blocks.
-fn blank(alloc: Global) -> Result<MemDisk, Memory>
-    ensures { IfOk result (λ disk. sectors_of disk ≡ 456) }
-{
-    MemDisk::new(alloc, "meta", 456)
-}
-
-/// What opening the disk gives.
-fn opening_of(alloc: Global, disk: MemDisk) -> Seen
-    requires { 24 ≤ sectors_of disk }
-{
-    match Slots::open(alloc, disk) {
-        Ok(Opened::Blank(_)) => Seen::Blank,
-        Ok(
-            Opened::Whole {
-                active,
-                body,
-                other,
-                sequence,
-                ..
-            },
-        ) => Seen::Whole {
-            active,
-            sequence,
-            body: body.as_slice().first().copied(),
-            other: match &other {
-                Some(other) => other.as_slice().first().copied(),
-                None => None,
-            },
-        },
-        Err(refusal) => Seen::Refused(refusal.error),
-    }
-}
-
-/// Begins and commits a body of this byte.
-fn store(slots: &mut Slots<MemDisk>, byte: u8) -> Result<(), u64>
-    requires room { 24 ≤ sectors_of slots.old.disk }
-    requires stands { SlotsStand (history_of slots.old.disk).now slots.old }
-    requires number { slots.old.number < 2 ^ 62 }
-    ensures room { sectors_of slots.new.disk ≡ sectors_of slots.old.disk }
-    ensures stands { SlotsStand (history_of slots.new.disk).now slots.new }
-    ensures number { OnOk result (slots.new.number ≡ slots.old.number + 1) }
-{
-    let body = [byte; 3_576];
-    slots.begin()?;
-    slots.commit(&body)
-}
-
-/// The disk after two commits on a blank one, of the bytes 1 and 2; none where a call failed.
-fn stored_twice(alloc: Global) -> Result<Option<MemDisk>, Memory>
-    ensures { IfOk result (λ disk. IfSome disk (λ disk. sectors_of disk ≡ 456)) }
-{
-    let disk = blank(alloc)?;
-    let Ok(Opened::Blank(mut slots)) = Slots::open(alloc, disk) else {
-        return Ok(None);
-    };
-    let Ok(()) = store(&mut slots, 1) else {
-        return Ok(None);
-    };
-    let Ok(()) = store(&mut slots, 2) else {
-        return Ok(None);
-    };
-    Ok(Some(slots.into_disk()))
-}
-
 #[test]
 fn the_last_commit_is_opened(rt: HostRuntime) -> Result<(), Fail> {
-    let whole = Seen::Whole {
-        active: 1,
-        sequence: 2,
-        body: Some(2),
-        other: Some(1),
-    };
     let found = match stored_twice(rt.alloc())? {
         Some(disk) => opening_of(rt.alloc(), disk),
         None => Seen::Blank,
     };
-    assert!(rt; found == whole);
-    Ok(())
-}
-
-#[test]
-fn a_wiped_disk_is_blank(rt: HostRuntime) -> Result<(), Fail> {
-    let mut wiped = false;
-    if let Some(disk) = stored_twice(rt.alloc())? {
-        if let Ok(slots) = Slots::wipe(disk, 0) {
-            wiped = opening_of(rt.alloc(), slots.into_disk()) == Seen::Blank;
-        }
-    }
-    assert!(rt; wiped);
+    assert!(rt; found == SECOND);
     Ok(())
 }
 
@@ -138,57 +41,12 @@ fn an_open_slot_of_number_0_is_refused(rt: HostRuntime) -> Result<(), Fail> {
     Ok(())
 }
 
-/// The disk after up to two commits on it; the second is tried where the first one answered Ok.
-fn store_both(mut slots: Slots<MemDisk>) -> MemDisk
-    requires room { 24 ≤ sectors_of slots.disk }
-    requires stands { SlotsStand (history_of slots.disk).now slots }
-    requires number { slots.number ≡ 0 }
-    ensures { sectors_of result ≡ sectors_of slots.disk }
-{
-    if let Ok(()) = store(&mut slots, 1) {
-        match store(&mut slots, 2) {
-            Ok(()) => {}
-            Err(_) => {}
-        }
-    }
-    slots.into_disk()
-}
-
-/// A blank disk after an opening and two commits, of which this call fails. Nothing is called after the failure.
-fn cut_at(alloc: Global, call: DiskCall, number: u64) -> Result<MemDisk, Memory>
-    ensures { IfOk result (λ disk. sectors_of disk ≡ 456) }
-{
-    let mut disk = blank(alloc)?;
-    disk.fail(call, number)?;
-    match Slots::open(alloc, disk) {
-        Ok(Opened::Blank(slots)) => Ok(store_both(slots)),
-        Ok(Opened::Whole { slots, .. }) => Ok(slots.into_disk()),
-        Err(refusal) => Ok(refusal.disk),
-    }
-}
-
-/// What an opening gives after the crash with this tear.
+/// What an opening gives after a crash with this tear, where this call failed.
 fn left_by(alloc: Global, call: DiskCall, number: u64, tear: Tear) -> Result<Seen, Memory> {
     let mut disk = cut_at(alloc, call, number)?;
     disk.crash(tear)?;
     Ok(opening_of(alloc, disk))
 }
-
-/// The first body alone.
-const FIRST: Seen = Seen::Whole {
-    active: 0,
-    sequence: 1,
-    body: Some(1),
-    other: None,
-};
-
-/// Both bodies.
-const SECOND: Seen = Seen::Whole {
-    active: 1,
-    sequence: 2,
-    body: Some(2),
-    other: Some(1),
-};
 
 #[test]
 fn a_crash_at_a_write_leaves_the_old_body_or_the_new(rt: HostRuntime) -> Result<(), Fail> {
@@ -216,5 +74,23 @@ fn a_crash_at_a_sync_leaves_the_old_body_or_the_new(rt: HostRuntime) -> Result<(
     assert!(rt; left(3, Tear::Fill(1))? == FIRST);
     assert!(rt; left(4, Tear::Keep)? == SECOND && left(4, Tear::Old)? == FIRST);
     assert!(rt; left(4, Tear::Fill(1))? == SECOND && left(4, Tear::Fill(9))? == FIRST);
+    Ok(())
+}
+
+#[test]
+fn a_crash_over_an_older_body_leaves_the_old_body_or_the_new(rt: HostRuntime) -> Result<(), Fail> {
+    let left = |call, number, tear| left_by(rt.alloc(), call, number, tear);
+    assert!(rt; left(DiskCall::Write, 4, Tear::Keep)? == SECOND);
+    assert!(rt; left(DiskCall::Write, 4, Tear::Fill(1))? == SECOND);
+    assert!(rt; left(DiskCall::Write, 4, Tear::Fill(9))? == SECOND_ALONE);
+    assert!(rt; left(DiskCall::Sync, 5, Tear::Keep)? == SECOND_ALONE);
+    assert!(rt; left(DiskCall::Sync, 5, Tear::Old)? == SECOND);
+    assert!(rt; left(DiskCall::Write, 5, Tear::Fill(1))? == SECOND_ALONE);
+    assert!(rt; left(DiskCall::Sync, 6, Tear::Keep)? == SECOND_ALONE);
+    assert!(rt; left(DiskCall::Sync, 6, Tear::Fill(1))? == SECOND_ALONE);
+    assert!(rt; left(DiskCall::Write, 6, Tear::Keep)? == SECOND_ALONE);
+    assert!(rt; left(DiskCall::Write, 6, Tear::Fill(1))? == THIRD);
+    assert!(rt; left(DiskCall::Sync, 7, Tear::Keep)? == THIRD);
+    assert!(rt; left(DiskCall::Sync, 7, Tear::Old)? == SECOND_ALONE);
     Ok(())
 }

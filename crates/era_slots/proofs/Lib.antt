@@ -9,4 +9,5 @@ pub mod Commits
 pub mod Pages
 pub mod Reading
 pub mod Gates
+pub mod Counts
 pub mod Survival

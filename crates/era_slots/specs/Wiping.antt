@@ -1,5 +1,5 @@
 -- The promise of a wiping: what each moment of it is to the state before it.
-use Rattle.std.specs.Prelude.{◌≡◌, ℕ, ◌+◌, ◌*◌, ◌<◌, ◌≤◌, ◌⊎◌, ◌↔◌, Bool, true, false, List, length, slice_index}
+use Rattle.std.specs.Prelude.{◌≡◌, ℕ, ◌+◌, ◌*◌, ◌<◌, ◌≤◌, ◌⊎◌, ◌↔◌, Bool, true, false, List, eqb, length, slice_index}
 use Rattle.era_base.specs.CrashModel.{State, SameBut, Leaves, IsClean, is_pending}
 use Rattle.era_base.specs.Faults.{Rose}
 use Rattle.era_slots.specs.declared.opened.SlotError.{SlotError}
@@ -35,6 +35,15 @@ pub record Wipes (first : ℕ) (before now : State) : Type 0 where
 abbrev pub gate_end : ℕ → Bool → ℕ
 gate_end slot true = 4096 * slot + 512
 gate_end slot false = 4096 * slot
+
+-- How many gates of one slot are open by its flag: 0 or 1.
+abbrev pub flag_count : Bool → ℕ
+flag_count true = 1
+flag_count false = 0
+
+-- How many of the two gates are open: 0 to 2.
+abbrev pub open_gates : List ℕ → ℕ
+open_gates seen = flag_count (eqb (slice_index seen 0) 1) + flag_count (eqb (slice_index seen 4096) 1)
 
 -- The only refusal of a wiping that takes no memory is a fault, which is the disk's count, which rose.
 abbrev pub IsFault : ℕ → ℕ → SlotError → Type 0

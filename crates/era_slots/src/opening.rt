@@ -17,7 +17,8 @@ use std::alloc::Global;
 /// What the slots are whose bytes these are.
 pub fn found_in(first: &[u8], second: &[u8]) -> Found
     requires size { (length first.now ≡ 4096) × (length second.now ≡ 4096) }
-    ensures { (seen : List ℕ) → first.now ≡ page_of 0 seen → second.now ≡ page_of 1 seen → IsFoundIn seen result }
+    ensures { (seen : List ℕ)
+        → first.now ≡ page_of 0 seen → second.now ≡ page_of 1 seen → IsFoundIn seen result }
 {
     judge(head_of(first), head_of(second))
 }
@@ -48,11 +49,14 @@ fn whole<D: Disk>(
     requires room { 24 ≤ D.sectors disk }
     requires clean { D.tells ≡ true → IsClean (D.history disk).now }
     requires own { D.tells ≡ true → own.now ≡ page_of active (D.history disk).now.seen }
-    requires beside { D.tells ≡ true → beside.now ≡ page_of (other active) (D.history disk).now.seen }
+    requires beside { D.tells ≡ true
+        → beside.now ≡ page_of (other active) (D.history disk).now.seen }
     requires stands { D.tells ≡ true → IsActive active (D.history disk).now.seen }
     ensures disk { disk_opened result ≡ disk }
-    ensures stands { D.tells ≡ true → IfOk result (λ opened. SlotsStand (D.history disk).now (slots_of opened)) }
-    ensures told { D.tells ≡ true → MatchResult result (Opens (D.history disk).now) (λ refusal. RefusedBy (D.history disk).now refusal.error) }
+    ensures stands { D.tells ≡ true
+        → IfOk result (λ opened. SlotsStand (D.history disk).now (slots_of opened)) }
+    ensures told { D.tells ≡ true → MatchResult result
+        (Opens (D.history disk).now) (λ refusal. RefusedBy (D.history disk).now refusal.error) }
     ensures cause { MatchResult result (λ opened. D.faults disk ≡ D.faults disk)
         (λ refusal. HasFaultCause (D.faults disk) (D.faults refusal.disk) refusal.error) }
 {
@@ -85,13 +89,19 @@ impl<D: Disk> Slots<D> {
     /// one commit number, then want of memory for the bodies. Each refusal hands the disk back.
     pub fn open(alloc: Global, mut disk: D) -> Result<Opened<D>, SlotRefusal<D>>
         requires { 24 ≤ D.sectors disk }
-        ensures moments { D.tells ≡ true → Went (SameBut 0 0) (D.history disk) (D.history (disk_opened result)) }
-        ensures stands { D.tells ≡ true → IfOk result (λ opened. SlotsStand (D.history (slots_of opened).disk).now (slots_of opened)) }
-        ensures told { D.tells ≡ true → MatchResult result (λ opened. Opens (D.history (slots_of opened).disk).now opened)
+        ensures moments { D.tells ≡ true
+            → Went (SameBut 0 0) (D.history disk) (D.history (disk_opened result)) }
+        ensures stands { D.tells ≡ true → IfOk result
+            (λ opened. SlotsStand (D.history (slots_of opened).disk).now (slots_of opened)) }
+        ensures told { D.tells ≡ true
+            → MatchResult result (λ opened. Opens (D.history (slots_of opened).disk).now opened)
             (λ refusal. RefusedBy (D.history refusal.disk).now refusal.error) }
-        ensures calls { D.tells ≡ true → OnOk result (clock (D.history (disk_opened result)) ≡ clock (D.history disk) + 3) }
-        ensures disk { (D.sectors (disk_opened result) ≡ D.sectors disk) × (D.place (disk_opened result) ≡ D.place disk) }
-        ensures cause { MatchResult result (λ opened. D.faults (slots_of opened).disk ≡ D.faults disk)
+        ensures calls { D.tells ≡ true
+            → OnOk result (clock (D.history (disk_opened result)) ≡ clock (D.history disk) + 3) }
+        ensures disk { (D.sectors (disk_opened result) ≡ D.sectors disk)
+            × (D.place (disk_opened result) ≡ D.place disk) }
+        ensures cause { MatchResult result
+            (λ opened. D.faults (slots_of opened).disk ≡ D.faults disk)
             (λ refusal. HasFaultCause (D.faults disk) (D.faults refusal.disk) refusal.error) }
     {
         let mut first = [0; 4096];

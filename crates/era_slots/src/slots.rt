@@ -31,16 +31,24 @@ impl<D: Disk> Slots<D> {
     /// still be open, and `begin` may be called again. It takes no memory.
     pub fn begin(&mut self) -> Result<(), u64>
         requires room { 24 ≤ D.sectors self.old.disk }
-        requires stands { D.tells ≡ true → Stands self.old.target self.old.number self.old.may_be_open (D.history self.old.disk).now }
-        ensures moments { D.tells ≡ true → Went (Begins self.old.target self.old.number self.old.may_be_open)
+        requires stands { D.tells ≡ true
+            → Stands self.old.target self.old.number self.old.may_be_open
+            (D.history self.old.disk).now }
+        ensures moments { D.tells ≡ true
+            → Went (Begins self.old.target self.old.number self.old.may_be_open)
             (D.history self.old.disk) (D.history self.new.disk) }
-        ensures stands { D.tells ≡ true → Stands self.new.target self.new.number self.new.may_be_open (D.history self.new.disk).now }
-        ensures begun { OnOk result (self.new.may_be_open ≡ false) × OnErr result (self.new.may_be_open ≡ true) }
+        ensures stands { D.tells ≡ true
+            → Stands self.new.target self.new.number self.new.may_be_open
+            (D.history self.new.disk).now }
+        ensures begun { OnOk result (self.new.may_be_open ≡ false)
+            × OnErr result (self.new.may_be_open ≡ true) }
         ensures quiet { self.old.may_be_open ≡ false → IsOk result × (self.new ≡ self.old) }
         ensures calls { D.tells ≡ true → self.old.may_be_open ≡ true → OnOk result
-            (IsClean (D.history self.new.disk).now × (clock (D.history self.new.disk) ≡ clock (D.history self.old.disk) + 2)) }
+            (IsClean (D.history self.new.disk).now
+            × (clock (D.history self.new.disk) ≡ clock (D.history self.old.disk) + 2)) }
         ensures same { (self.new.target ≡ self.old.target) × (self.new.number ≡ self.old.number) }
-        ensures disk { (D.sectors self.new.disk ≡ D.sectors self.old.disk) × (D.place self.new.disk ≡ D.place self.old.disk) }
+        ensures disk { (D.sectors self.new.disk ≡ D.sectors self.old.disk)
+            × (D.place self.new.disk ≡ D.place self.old.disk) }
         ensures cause { HasCount (D.faults self.old.disk) (D.faults self.new.disk) result }
     {
         if !self.may_be_open {
@@ -55,16 +63,25 @@ impl<D: Disk> Slots<D> {
     /// the next commit. No block but this one changes: the caller puts no block that the committed body needs. The
     /// error is the disk's count of faults, which rose; then a read of the block may give anything. It takes no memory.
     pub fn put_page(&mut self, block: u32, bytes: &[u8]) -> Result<(), u64>
-        requires stands { D.tells ≡ true → Stands self.old.target self.old.number self.old.may_be_open (D.history self.old.disk).now }
+        requires stands { D.tells ≡ true
+            → Stands self.old.target self.old.number self.old.may_be_open
+            (D.history self.old.disk).now }
         requires begun { self.old.may_be_open ≡ false }
         requires block { (2 ≤ block) × (block * 8 + 8 ≤ D.sectors self.old.disk) }
         requires size { length bytes.now ≡ 4096 }
-        ensures moments { D.tells ≡ true → Went (PutsPage self.old.target self.old.number block) (D.history self.old.disk) (D.history self.new.disk) }
-        ensures stands { D.tells ≡ true → Stands self.new.target self.new.number self.new.may_be_open (D.history self.new.disk).now }
-        ensures put { D.tells ≡ true → OnOk result (page_of block (D.history self.new.disk).now.seen ≡ bytes.now) }
-        ensures calls { D.tells ≡ true → clock (D.history self.new.disk) ≡ clock (D.history self.old.disk) + 1 }
-        ensures same { (self.new.target ≡ self.old.target) × (self.new.number ≡ self.old.number) × (self.new.may_be_open ≡ self.old.may_be_open) }
-        ensures disk { (D.sectors self.new.disk ≡ D.sectors self.old.disk) × (D.place self.new.disk ≡ D.place self.old.disk) }
+        ensures moments { D.tells ≡ true → Went (PutsPage self.old.target self.old.number block)
+            (D.history self.old.disk) (D.history self.new.disk) }
+        ensures stands { D.tells ≡ true
+            → Stands self.new.target self.new.number self.new.may_be_open
+            (D.history self.new.disk).now }
+        ensures put { D.tells ≡ true
+            → OnOk result (page_of block (D.history self.new.disk).now.seen ≡ bytes.now) }
+        ensures calls { D.tells ≡ true
+            → clock (D.history self.new.disk) ≡ clock (D.history self.old.disk) + 1 }
+        ensures same { (self.new.target ≡ self.old.target)
+            × (self.new.number ≡ self.old.number) × (self.new.may_be_open ≡ self.old.may_be_open) }
+        ensures disk { (D.sectors self.new.disk ≡ D.sectors self.old.disk)
+            × (D.place self.new.disk ≡ D.place self.old.disk) }
         ensures cause { HasCount (D.faults self.old.disk) (D.faults self.new.disk) result }
     {
         let Ok(()) = self.disk.write(u64::from(block) * 8, bytes) else {
@@ -78,21 +95,31 @@ impl<D: Disk> Slots<D> {
     /// error is the disk's count of faults, which rose; then the committed body is as before. It takes no memory.
     pub fn commit(&mut self, body: &[u8]) -> Result<(), u64>
         requires room { 24 ≤ D.sectors self.old.disk }
-        requires stands { D.tells ≡ true → Stands self.old.target self.old.number self.old.may_be_open (D.history self.old.disk).now }
+        requires stands { D.tells ≡ true
+            → Stands self.old.target self.old.number self.old.may_be_open
+            (D.history self.old.disk).now }
         requires begun { self.old.may_be_open ≡ false }
         requires size { length body.now ≡ 3576 }
         requires number { self.old.number < 2 ^ 63 - 1 }
-        ensures moments { D.tells ≡ true → Went (Commits self.old.target self.old.number body.now) (D.history self.old.disk) (D.history self.new.disk) }
-        ensures stands { D.tells ≡ true → Stands self.new.target self.new.number self.new.may_be_open (D.history self.new.disk).now }
-        ensures stored { D.tells ≡ true → OnOk result (IsStored self.old.target self.old.number body.now (D.history self.new.disk).now) }
-        ensures failed { D.tells ≡ true → OnErr result (IsFailed self.old.target self.old.number self.new.may_be_open body.now
+        ensures moments { D.tells ≡ true → Went (Commits self.old.target self.old.number body.now)
+            (D.history self.old.disk) (D.history self.new.disk) }
+        ensures stands { D.tells ≡ true
+            → Stands self.new.target self.new.number self.new.may_be_open
+            (D.history self.new.disk).now }
+        ensures stored { D.tells ≡ true → OnOk result
+            (IsStored self.old.target self.old.number body.now (D.history self.new.disk).now) }
+        ensures failed { D.tells ≡ true
+            → OnErr result (IsFailed self.old.target self.old.number self.new.may_be_open body.now
             (D.history self.old.disk).now (D.history self.new.disk).now) }
-        ensures calls { D.tells ≡ true → OnOk result (clock (D.history self.new.disk) ≡ clock (D.history self.old.disk) + 4) }
+        ensures calls { D.tells ≡ true
+            → OnOk result (clock (D.history self.new.disk) ≡ clock (D.history self.old.disk) + 4) }
         ensures done { MatchResult result
-            (λ _. (self.new.target ≡ other self.old.target) × (self.new.number ≡ self.old.number + 1)
+            (λ _. (self.new.target ≡ other self.old.target)
+            × (self.new.number ≡ self.old.number + 1)
             × (self.new.may_be_open ≡ nat_lt 0 self.old.number))
             (λ _. (self.new.target ≡ self.old.target) × (self.new.number ≡ self.old.number)) }
-        ensures disk { (D.sectors self.new.disk ≡ D.sectors self.old.disk) × (D.place self.new.disk ≡ D.place self.old.disk) }
+        ensures disk { (D.sectors self.new.disk ≡ D.sectors self.old.disk)
+            × (D.place self.new.disk ≡ D.place self.old.disk) }
         ensures cause { HasCount (D.faults self.old.disk) (D.faults self.new.disk) result }
     {
         write_body(&mut self.disk, self.target, self.number + 1, body)?;
@@ -109,11 +136,21 @@ impl<D: Disk> Slots<D> {
     pub fn read_page(&mut self, block: u32, into: &mut [u8]) -> Result<(), u64>
         requires block { block * 8 + 8 ≤ D.sectors self.old.disk }
         requires size { length into.old ≡ 4096 }
-        ensures moments { D.tells ≡ true → Went (λ before now. now ≡ before) (D.history self.old.disk) (D.history self.new.disk) }
-        ensures read { D.tells ≡ true → OnOk result (into.new ≡ page_of block (D.history self.old.disk).now.seen) }
-        ensures calls { D.tells ≡ true → clock (D.history self.new.disk) ≡ clock (D.history self.old.disk) + 1 }
-        ensures same { (self.new.target ≡ self.old.target) × (self.new.number ≡ self.old.number) × (self.new.may_be_open ≡ self.old.may_be_open) }
-        ensures disk { (D.sectors self.new.disk ≡ D.sectors self.old.disk) × (D.place self.new.disk ≡ D.place self.old.disk) }
+        ensures moments { D.tells ≡ true → Went (λ before now. now ≡ before)
+            (D.history self.old.disk) (D.history self.new.disk) }
+        ensures stands { D.tells ≡ true
+            → Stands self.old.target self.old.number self.old.may_be_open
+            (D.history self.old.disk).now
+            → Stands self.new.target self.new.number self.new.may_be_open
+            (D.history self.new.disk).now }
+        ensures read { D.tells ≡ true
+            → OnOk result (into.new ≡ page_of block (D.history self.old.disk).now.seen) }
+        ensures calls { D.tells ≡ true
+            → clock (D.history self.new.disk) ≡ clock (D.history self.old.disk) + 1 }
+        ensures same { (self.new.target ≡ self.old.target)
+            × (self.new.number ≡ self.old.number) × (self.new.may_be_open ≡ self.old.may_be_open) }
+        ensures disk { (D.sectors self.new.disk ≡ D.sectors self.old.disk)
+            × (D.place self.new.disk ≡ D.place self.old.disk) }
         ensures cause { HasCount (D.faults self.old.disk) (D.faults self.new.disk) result }
     {
         let Ok(()) = self.disk.read(u64::from(block) * 8, into) else {

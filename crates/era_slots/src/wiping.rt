@@ -1,11 +1,11 @@
 //! Wipes the slots of a disk.
 
 ghost use Rattle.std.specs.Prelude.{◌≡◌, ◌-◌, ◌+◌, ◌*◌, ◌<◌, ◌≤◌, ◌↔◌, ℕ, List, true, false, length, IfOk, OnOk, MatchResult};
-ghost use Rattle.era_base.specs.CrashModel.{SameBut, IsClean, Went};
+ghost use Rattle.era_base.specs.CrashModel.{SameBut, IsClean, Went, clock};
 ghost use Rattle.era_slots.specs.Slot.{other, SlotIsOpen, SlotIsClosed, IsBlank};
 ghost use Rattle.era_slots.specs.Causes.{HasCount};
 ghost use Rattle.era_slots.specs.Opening.{disk_wiped, SlotsStand, OpensBlank};
-ghost use Rattle.era_slots.specs.Wiping.{Wipes, gate_end, IsFault};
+ghost use Rattle.era_slots.specs.Wiping.{Wipes, gate_end, flag_count, open_gates, IsFault};
 
 use crate::heads::gate_is_open;
 use crate::look::look;
@@ -18,10 +18,14 @@ use era_base::Disk;
 fn close_open<D: Disk>(disk: &mut D, slot: u32, is_open: bool) -> Result<(), u64>
     requires slot { slot < 2 }
     requires room { 24 ≤ D.sectors disk.old }
-    ensures moments { D.tells ≡ true → Went (SameBut (4096 * slot) (gate_end slot is_open)) (D.history disk.old) (D.history disk.new) }
+    ensures moments { D.tells ≡ true → Went (SameBut (4096 * slot) (gate_end slot is_open))
+        (D.history disk.old) (D.history disk.new) }
+    ensures calls { D.tells ≡ true → OnOk result
+        (clock (D.history disk.new) ≡ clock (D.history disk.old) + 2 * flag_count is_open) }
     ensures closed { D.tells ≡ true → IsClean (D.history disk.old).now
         → (is_open ≡ false → SlotIsClosed slot (D.history disk.old).now.seen)
-        → OnOk result (IsClean (D.history disk.new).now × SlotIsClosed slot (D.history disk.new).now.seen) }
+        → OnOk result
+        (IsClean (D.history disk.new).now × SlotIsClosed slot (D.history disk.new).now.seen) }
     ensures size { D.sectors disk.new ≡ D.sectors disk.old }
     ensures place { D.place disk.new ≡ D.place disk.old }
     ensures cause { HasCount (D.faults disk.old) (D.faults disk.new) result }
@@ -43,10 +47,16 @@ fn close_both<D: Disk>(
     requires slot { first < 2 }
     requires room { 24 ≤ D.sectors disk.old }
     requires clean { D.tells ≡ true → IsClean (D.history disk.old).now }
-    requires first { D.tells ≡ true → (first_is_open ≡ true) ↔ SlotIsOpen first (D.history disk.old).now.seen }
-    requires beside { D.tells ≡ true → (other_is_open ≡ true) ↔ SlotIsOpen (other first) (D.history disk.old).now.seen }
-    ensures moments { D.tells ≡ true → Went (Wipes first) (D.history disk.old) (D.history disk.new) }
-    ensures blank { D.tells ≡ true → OnOk result (IsClean (D.history disk.new).now × IsBlank (D.history disk.new).now.seen) }
+    requires first { D.tells ≡ true
+        → (first_is_open ≡ true) ↔ SlotIsOpen first (D.history disk.old).now.seen }
+    requires beside { D.tells ≡ true
+        → (other_is_open ≡ true) ↔ SlotIsOpen (other first) (D.history disk.old).now.seen }
+    ensures moments { D.tells ≡ true
+        → Went (Wipes first) (D.history disk.old) (D.history disk.new) }
+    ensures blank { D.tells ≡ true
+        → OnOk result (IsClean (D.history disk.new).now × IsBlank (D.history disk.new).now.seen) }
+    ensures calls { D.tells ≡ true → OnOk result (clock (D.history disk.new)
+        ≡ clock (D.history disk.old) + 2 * (flag_count first_is_open + flag_count other_is_open)) }
     ensures size { D.sectors disk.new ≡ D.sectors disk.old }
     ensures place { D.place disk.new ≡ D.place disk.old }
     ensures cause { HasCount (D.faults disk.old) (D.faults disk.new) result }
@@ -59,8 +69,12 @@ fn close_both<D: Disk>(
 fn close_read<D: Disk>(disk: &mut D, first: u32) -> Result<(), u64>
     requires slot { first < 2 }
     requires room { 24 ≤ D.sectors disk.old }
-    ensures moments { D.tells ≡ true → Went (Wipes first) (D.history disk.old) (D.history disk.new) }
-    ensures blank { D.tells ≡ true → OnOk result (IsClean (D.history disk.new).now × IsBlank (D.history disk.new).now.seen) }
+    ensures moments { D.tells ≡ true
+        → Went (Wipes first) (D.history disk.old) (D.history disk.new) }
+    ensures blank { D.tells ≡ true
+        → OnOk result (IsClean (D.history disk.new).now × IsBlank (D.history disk.new).now.seen) }
+    ensures calls { D.tells ≡ true → OnOk result (clock (D.history disk.new)
+        ≡ clock (D.history disk.old) + 3 + 2 * open_gates (D.history disk.old).now.seen) }
     ensures size { D.sectors disk.new ≡ D.sectors disk.old }
     ensures place { D.place disk.new ≡ D.place disk.old }
     ensures cause { HasCount (D.faults disk.old) (D.faults disk.new) result }
@@ -84,11 +98,16 @@ impl<D: Disk> Slots<D> {
     pub fn wipe(mut disk: D, first: u32) -> Result<Slots<D>, SlotRefusal<D>>
         requires slot { first < 2 }
         requires room { 24 ≤ D.sectors disk }
-        ensures moments { D.tells ≡ true → Went (Wipes first) (D.history disk) (D.history (disk_wiped result)) }
-        ensures stands { D.tells ≡ true → IfOk result (λ slots. SlotsStand (D.history slots.disk).now slots) }
+        ensures moments { D.tells ≡ true
+            → Went (Wipes first) (D.history disk) (D.history (disk_wiped result)) }
+        ensures stands { D.tells ≡ true
+            → IfOk result (λ slots. SlotsStand (D.history slots.disk).now slots) }
         ensures blank { D.tells ≡ true → IfOk result (λ slots. IsClean (D.history slots.disk).now
             × OpensBlank (D.history slots.disk).now.seen slots) }
-        ensures disk { (D.sectors (disk_wiped result) ≡ D.sectors disk) × (D.place (disk_wiped result) ≡ D.place disk) }
+        ensures calls { D.tells ≡ true → OnOk result (clock (D.history (disk_wiped result))
+            ≡ clock (D.history disk) + 3 + 2 * open_gates (D.history disk).now.seen) }
+        ensures disk { (D.sectors (disk_wiped result) ≡ D.sectors disk)
+            × (D.place (disk_wiped result) ≡ D.place disk) }
         ensures cause { MatchResult result (λ slots. D.faults slots.disk ≡ D.faults disk)
             (λ refusal. IsFault (D.faults disk) (D.faults refusal.disk) refusal.error) }
     {
