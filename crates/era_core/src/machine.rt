@@ -68,6 +68,13 @@ impl Core {
         })
     }
 
+    /// What has happened so far over all sessions, the earliest first.
+    pub fn happenings(&self) -> &[Happening]
+        ensures { reverse result.now ≡ self.now.history }
+    {
+        self.happenings.as_slice()
+    }
+
     /// Whether the step may happen: exactly where it meets its conditions. It takes no memory.
     pub fn enabled(&self, step: &Step) -> bool
         ensures { IsTrue result ↔ IsEnabled self.now step.now }

@@ -4,12 +4,26 @@
 #[cfg(test)]
 mod adapters;
 #[cfg(test)]
+mod metadata_schedules;
+#[cfg(test)]
+mod moves;
+#[cfg(test)]
 mod plain_calls;
 #[cfg(test)]
 mod plain_disks;
 #[cfg(test)]
 mod slot_commits;
 #[cfg(test)]
+mod small_events;
+#[cfg(test)]
+mod small_images;
+#[cfg(test)]
 mod small_lists;
 #[cfg(test)]
+mod small_sessions;
+#[cfg(test)]
+mod tables;
+#[cfg(test)]
 mod tears;
+#[cfg(test)]
+mod write_schedules;
