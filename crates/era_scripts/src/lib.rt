@@ -4,6 +4,10 @@
 #[cfg(test)]
 mod adapters;
 #[cfg(test)]
+mod chains;
+#[cfg(test)]
+mod crash_schedules;
+#[cfg(test)]
 mod metadata_schedules;
 #[cfg(test)]
 mod moves;
