@@ -9,7 +9,8 @@ use Rattle.era_model.specs.History.{at_opening, is_open}
 use Rattle.era_model.specs.Legal.{IsLegal}
 use Rattle.era_core.specs.declared.step.Step.{Step}
 use Rattle.era_core.specs.declared.step.Step.TheVariants.{Enter, Leave, Take, Crash, Reopen}
-use Rattle.era_core.specs.Machine.{CoreState, IsEnabled, MayReopen, MayReopenOn, Run, after_step, reopened, reopening}
+use Rattle.era_core.specs.AfterSteps.{Run, after_step, reopened, reopening}
+use Rattle.era_core.specs.Machine.{CoreState, IsEnabled, MayReopen, MayReopenOn}
 use Rattle.era_core.proofs.Words.{at-known}
 
 -- The opening of a session that is open.

@@ -11,7 +11,8 @@ use Rattle.era_model.specs.Promises.{MarksFollowJournal}
 use Rattle.era_core.specs.declared.step.Step.{Step}
 use Rattle.era_core.specs.declared.step.Step.TheVariants.{Reopen}
 use Rattle.era_core.specs.KeptState.{next_opening}
-use Rattle.era_core.specs.Machine.{CoreState, IsEnabled, MayReopen, after_step, reopened, reopening}
+use Rattle.era_core.specs.AfterSteps.{after_step, reopened, reopening}
+use Rattle.era_core.specs.Machine.{CoreState, IsEnabled, MayReopen}
 use Rattle.era_core.specs.Present.{opening_in}
 use Rattle.era_core.proofs.AtOpening.{at_opening-none, at_opening-some}
 use Rattle.era_core.proofs.FirstMoment.{few_held}

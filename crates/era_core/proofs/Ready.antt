@@ -16,7 +16,8 @@ use Rattle.era_model.specs.Marks.{has}
 use Rattle.era_model.specs.Writes.{is_cut, is_writing, with_cut, without}
 use Rattle.era_core.specs.declared.step.Step.{Step}
 use Rattle.era_core.specs.declared.step.Step.TheVariants.{Enter, Leave}
-use Rattle.era_core.specs.Machine.{CoreState, IsEnabled, IsInside, Run, after_step, count_inside, was_kept, with_stripe}
+use Rattle.era_core.specs.AfterSteps.{Run, after_step, with_stripe}
+use Rattle.era_core.specs.Machine.{CoreState, IsEnabled, IsInside, count_inside, was_kept}
 use Rattle.era_core.specs.Schedules.{unnumbered}
 use Rattle.era_core.proofs.Accepted.{HasOpened, has-opened}
 use Rattle.era_core.proofs.Insides.{count-none, inside-within, kept-push, left-behind, still-inside}

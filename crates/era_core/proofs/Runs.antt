@@ -2,7 +2,8 @@
 use Rattle.std.proofs.Common.{◌≡◌, ℕ, zero, suc, ◌+◌, ◌<◌, List, [], ◌∷◌, ◌++◌, length, take, drop, get_or, refl, sym, ap, subst, arith}
 use Rattle.std.proofs.lemmas.List.{take_more}
 use Rattle.era_core.specs.declared.step.Step.{Step}
-use Rattle.era_core.specs.Machine.{CoreState, IsEnabled, Run, StopsAt, after_step}
+use Rattle.era_core.specs.AfterSteps.{Run, StopsAt, after_step}
+use Rattle.era_core.specs.Machine.{CoreState, IsEnabled}
 
 -- one more step
 run-more : (core last : CoreState) (steps : List Step) (step : Step) → Run core steps last → IsEnabled last step → Run core (steps ++ step ∷ []) (after_step last step)

@@ -18,7 +18,8 @@ use Rattle.era_model.specs.History.{at_opening, in_flight, is_open, stripe_now}
 use Rattle.era_model.specs.Legal.{IsLegal, IsOpening, MayHappen}
 use Rattle.era_model.specs.Marks.{has}
 use Rattle.era_core.specs.declared.step.Step.TheVariants.{Enter, Take, Crash, Reopen}
-use Rattle.era_core.specs.Machine.{AllowsInside, CoreState, IsInside, Run, count_inside, is_metadata_event, opened_core, reopening, was_kept, with_event, with_stripe}
+use Rattle.era_core.specs.AfterSteps.{Run, is_metadata_event, reopening, with_event, with_stripe}
+use Rattle.era_core.specs.Machine.{AllowsInside, CoreState, IsInside, count_inside, opened_core, was_kept}
 use Rattle.era_core.specs.Schedules.{IsScheduled, unnumbered, unnumbered_event}
 use Rattle.era_core.proofs.Accepted.{HasOpened, has-opened}
 use Rattle.era_core.proofs.Insides.{count-length, count-outside, entered, kept-one, none-inside, some-inside}

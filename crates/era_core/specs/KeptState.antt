@@ -11,7 +11,8 @@ use Rattle.era_model.specs.Legal.{IsLegal}
 use Rattle.era_model.specs.Marking.{held_of, marks_of}
 use Rattle.era_model.specs.Marks.{BlockMarks}
 use Rattle.era_model.specs.Writes.{write_of}
-use Rattle.era_core.specs.Machine.{CoreState, StopsAt, reopening}
+use Rattle.era_core.specs.AfterSteps.{StopsAt, reopening}
+use Rattle.era_core.specs.Machine.{CoreState}
 use Rattle.era_core.specs.declared.step.CoreStop.{CoreStop}
 use Rattle.era_core.specs.declared.step.CoreStop.TheVariants.{NotEnabled, Memory}
 use Rattle.era_core.specs.declared.step.Step.{Step}

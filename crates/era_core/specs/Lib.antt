@@ -1,4 +1,5 @@
 pub mod Machine
+pub mod AfterSteps
 pub mod Schedules
 pub mod Present
 pub mod KeptState

@@ -9,7 +9,8 @@ use Rattle.era_model.specs.Chains.{IsMoment}
 use Rattle.era_model.specs.History.{is_open}
 use Rattle.era_model.specs.Legal.{IsLegal, IsOpening}
 use Rattle.era_core.specs.declared.step.Step.{Step}
-use Rattle.era_core.specs.Machine.{CoreState, Run, opened_core}
+use Rattle.era_core.specs.AfterSteps.{Run}
+use Rattle.era_core.specs.Machine.{CoreState, opened_core}
 
 -- The event, with the number of an era that was kept left out.
 abbrev pub unnumbered_event : Event → Event

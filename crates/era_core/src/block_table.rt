@@ -3,14 +3,15 @@
 ghost use Rattle.std.specs.Prelude.{◌≡◌, ◌↔◌, ◌/◌, ◌<◌, ◌≤◌, ◌^◌, ◌&&◌, IfOk, IsTrue, if◌then◌else◌, length, option_map};
 ghost use Rattle.era_core.specs.Present.{is_on_page};
 ghost use Rattle.era_model.specs.Digest.{digest_of, digested, first_untranscribed};
-ghost use Rattle.era_model.specs.MarkRuns.{eras_of_runs, flags_of_runs, sets_of_runs};
 ghost use Rattle.era_model.specs.Usage.{pages_of_marks};
 ghost use Rattle.era_model.specs.Marks.{BlockMarks, blocks_of_marks, entry_of, has, last_archived, marks_last_era, rolled, transcribed, with_block, with_oldest_merged};
 
+use crate::block_lists::{
+    are_entries, are_flags, are_sets, copies_of, entries_of, flags_of, sets_of,
+};
 use crate::block_set::BlockSet;
-use crate::run_eras::run_era;
 use era_base::{Geometry, Memory};
-use era_model::{MarkedSet, Marks, is_covered};
+use era_model::Marks;
 use std::alloc::Global;
 use std::marker::Model;
 use std::mem;
@@ -36,51 +37,6 @@ impl Model for BlockTable {
       archive = t.archive.items;
       current = t.current.items;
     } };
-}
-
-/// For each of so many blocks whether it lies in one of the runs.
-fn flags_of(alloc: Global, blocks: u32, runs: &[(u32, u32)]) -> Result<Vec<bool>, Memory>
-    ensures { IfOk result (λ flags. flags.items ≡ flags_of_runs 0 blocks runs.now) }
-{
-    let mut flags = Vec::new(alloc);
-    for block in 0..blocks {
-        flags.push(is_covered(runs, block))?;
-    }
-    Ok(flags)
-}
-
-/// Each block's entry.
-fn entries_of(alloc: Global, blocks: u32, runs: &[(u32, u32, u32)]) -> Result<Vec<u64>, Memory>
-    ensures { IfOk result (λ entries. entries.items ≡ eras_of_runs 0 blocks runs.now) }
-{
-    let mut entries = Vec::new(alloc);
-    for block in 0..blocks {
-        entries.push(u64::from(run_era(runs, block)))?;
-    }
-    Ok(entries)
-}
-
-/// The archived sets block by block.
-fn sets_of(alloc: Global, blocks: u32, sets: &[MarkedSet]) -> Result<Vec<BlockSet>, Memory>
-    ensures { IfOk result (λ tables. tables.items ≡ sets_of_runs blocks sets.now) }
-{
-    let mut tables = Vec::new(alloc);
-    for set in sets {
-        let flags = flags_of(alloc, blocks, set.blocks.as_slice())?;
-        tables.push(BlockSet::new(u64::from(set.era), flags))?;
-    }
-    Ok(tables)
-}
-
-/// Copies of the sets.
-fn copies_of(alloc: Global, sets: &[BlockSet]) -> Result<Vec<BlockSet>, Memory>
-    ensures { IfOk result (λ tables. tables.items ≡ sets.now) }
-{
-    let mut tables = Vec::new(alloc);
-    for set in sets {
-        tables.push(set.copy(alloc)?)?;
-    }
-    Ok(tables)
 }
 
 impl BlockTable {
@@ -230,58 +186,6 @@ impl BlockTable {
     }
 }
 
-/// Whether the flags are those of the runs.
-fn are_flags(flags: &[bool], blocks: u32, runs: &[(u32, u32)]) -> bool
-    ensures { IsTrue result ↔ (flags.now ≡ flags_of_runs 0 blocks runs.now) }
-{
-    if flags.len() != blocks as usize {
-        return false;
-    }
-    for block in 0..blocks {
-        if flags[block as usize] != is_covered(runs, block) {
-            return false;
-        }
-    }
-    true
-}
-
-/// Whether the entries are those of the runs.
-fn are_entries(entries: &[u64], blocks: u32, runs: &[(u32, u32, u32)]) -> bool
-    ensures { IsTrue result ↔ (entries.now ≡ eras_of_runs 0 blocks runs.now) }
-{
-    if entries.len() != blocks as usize {
-        return false;
-    }
-    for block in 0..blocks {
-        if entries[block as usize] != u64::from(run_era(runs, block)) {
-            return false;
-        }
-    }
-    true
-}
-
-/// Whether the set is this one.
-fn is_set(set: &BlockSet, blocks: u32, marked: &MarkedSet) -> bool
-    ensures { IsTrue result ↔ (set.now ≡ record { era = marked.now.era; blocks = flags_of_runs 0 blocks marked.now.blocks }) }
-{
-    set.era() == u64::from(marked.era) && are_flags(set.flags(), blocks, marked.blocks.as_slice())
-}
-
-/// Whether the sets are these.
-fn are_sets(sets: &[BlockSet], blocks: u32, marked: &[MarkedSet]) -> bool
-    ensures { IsTrue result ↔ (sets.now ≡ sets_of_runs blocks marked.now) }
-{
-    if sets.len() != marked.len() {
-        return false;
-    }
-    for (index, set) in sets.iter().enumerate() {
-        if !is_set(set, blocks, &marked[index]) {
-            return false;
-        }
-    }
-    true
-}
-
 /// The era where the flag is set, else 0.
 fn era_if(flag: bool, era: u64) -> u64
     ensures { result ≡ (if flag then era else 0) }
@@ -322,7 +226,8 @@ fn last_of_sets(sets: &[BlockSet], block: u32) -> u64
 
 /// The page of 1,024 blocks with the first block of the set whose entry is another era than the set's, or `None`.
 fn first_page(set: &BlockSet, array: &[u64]) -> Option<usize>
-    ensures { result ≡ option_map (λ block. block / 1024) (first_untranscribed set.now.era set.now.blocks array.now 0) }
+    ensures { result ≡ option_map (λ block. block / 1024)
+        (first_untranscribed set.now.era set.now.blocks array.now 0) }
 {
     for (block, flag) in set.flags().iter().enumerate() {
         if *flag && entry_at(array, block) != set.era() {
@@ -343,7 +248,8 @@ fn transcribe(array: &mut Vec<u64>, set: &BlockSet, page: Option<u32>)
 
 /// Gives the block the set's era as its entry, if it is on the page and in the set.
 fn transcribe_entry(entry: &mut u64, block: usize, set: &BlockSet, page: Option<u32>)
-    ensures { entry.new ≡ (if is_on_page page block && has set.now.blocks block then set.now.era else entry.old) }
+    ensures { entry.new
+        ≡ (if is_on_page page block && has set.now.blocks block then set.now.era else entry.old) }
 {
     let on_page = match page {
         Some(page) => block / 1024 == page as usize,

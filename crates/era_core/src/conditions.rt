@@ -50,14 +50,16 @@ pub fn may_mark(h: &[Happening], id: CmdId, block: u32, era: u32) -> bool
 /// Whether so many bytes from the first sector of the block on lie in the block.
 fn is_place(h: &[Happening], block: u32, first: u32, len: usize) -> bool
     ensures { IsTrue result ↔ (place_now (reverse h.now)
-        (at_opening 0 (λ o. block * o.geometry.block_sectors + first) (reverse h.now)) (len / 512) ≡ Some (block, first)) }
+        (at_opening 0 (λ o. block * o.geometry.block_sectors + first) (reverse h.now)) (len / 512)
+        ≡ Some (block, first)) }
 {
     place_of(h, sector_of(h, block, first), len as u64 / 512) == Some((block, first))
 }
 
 /// The sector of the origin that is the block's sector `first`, 0 before the first session.
 fn sector_of(h: &[Happening], block: u32, first: u32) -> u64
-    ensures { result ≡ at_opening 0 (λ o. block * o.geometry.block_sectors + first) (reverse h.now) }
+    ensures { result
+        ≡ at_opening 0 (λ o. block * o.geometry.block_sectors + first) (reverse h.now) }
 {
     match present_opening(h) {
         Some(opening) => u64::from(block) * u64::from(opening.geometry.block_sectors())

@@ -33,7 +33,8 @@ fn may_take(h: &[Happening], inside: &[bool], kept: &[u32], upkeep: &Upkeep, eve
 fn may_end(h: &[Happening], inside: &[bool], kept: &[u32], upkeep: &Upkeep, images: &Images) -> bool
     requires keeps { IsKeptUp (reverse h.now) upkeep.now }
     requires few { length inside.now ≤ 16 }
-    ensures { IsTrue result ↔ MayLeaveImages (core_of (reverse h.now) inside.now kept.now) images.now }
+    ensures { IsTrue result
+        ↔ MayLeaveImages (core_of (reverse h.now) inside.now kept.now) images.now }
 {
     session_is_open(h)
         && may_crash(

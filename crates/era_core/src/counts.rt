@@ -37,7 +37,8 @@ fn count_of_event(
     disk: FailedDisk,
 ) -> Option<u64>
     requires { HaveStripes (reverse earlier.now) }
-    ensures { result ≡ count_of_fault (disk_of disk) (fault_of (reverse earlier.now) event.now) before }
+    ensures { result
+        ≡ count_of_fault (disk_of disk) (fault_of (reverse earlier.now) event.now) before }
 {
     match event {
         Event::Cut { id, faults } => count_of_part(
@@ -63,7 +64,8 @@ fn count_of_event(
 
 /// The count that the refusal tells of the disk, if it tells one, else the one before.
 fn count_of_refusal(before: Option<u64>, why: Why, disk: FailedDisk) -> Option<u64>
-    ensures { (h : List Happening) (id : CmdId) (kind : Kind) → result ≡ count_of_fault (disk_of disk) (fault_of h (Refused id kind why)) before }
+    ensures { (h : List Happening) (id : CmdId) (kind : Kind)
+        → result ≡ count_of_fault (disk_of disk) (fault_of h (Refused id kind why)) before }
 {
     match why {
         Why::DataFault { stripe, count } => count_of_part(before, Some(stripe), count, disk),

@@ -14,7 +14,8 @@ fn add_entries(runs: &mut EraRuns, first: u32, end: u32, era: u32) -> Result<(),
     requires behind { StandsBehindAll runs.old (first, first, era) }
     requires order { first ≤ end }
     ensures added { OnOk result (AddsEntries runs.old runs.new first end era) }
-    ensures behind { (last next : ℕ) → first < end → next ≢ era → OnOk result (StandsBehindAll runs.new (end, last, next)) }
+    ensures behind { (last next : ℕ) → first < end → next ≢ era
+        → OnOk result (StandsBehindAll runs.new (end, last, next)) }
 {
     if first < end && era != 0 {
         runs.push(first, end - 1, era)?;

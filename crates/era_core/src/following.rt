@@ -84,7 +84,8 @@ impl Upkeep {
         requires sets { length opening.now.marks.archive ≤ 16 }
         requires held { IfSome opening.now.held (λ m. length m.archive ≤ 16) }
         requires stripes { 1 ≤ opening.now.stripes }
-        ensures { (h : List Happening) → HaveStripes h → IfOk result (IsKeptUp (Opened opening.now ∷ h)) }
+        ensures { (h : List Happening) → HaveStripes h
+            → IfOk result (IsKeptUp (Opened opening.now ∷ h)) }
     {
         let contents = opening_contents(alloc, opening)?;
         let marks = BlockTable::of_marks(alloc, &opening.marks)?;
@@ -104,8 +105,11 @@ impl Upkeep {
     fn change_marks(&mut self, alloc: Global, next: BlockTable) -> Result<(), Memory>
         ensures marks { OnOk result (self.new.marks ≡ next) }
         ensures past { OnOk result (self.new.past.items ≡ self.old.past.items ++ next ∷ []) }
-        ensures others { (self.new.writes.items ≡ self.old.writes.items) × (self.new.contents.items ≡ self.old.contents.items) × (self.new.held ≡ self.old.held) }
-        ensures err { OnErr result ((self.new.marks ≡ self.old.marks) × (self.new.past.items ≡ self.old.past.items)) }
+        ensures others { (self.new.writes.items ≡ self.old.writes.items)
+            × (self.new.contents.items ≡ self.old.contents.items)
+            × (self.new.held ≡ self.old.held) }
+        ensures err { OnErr result ((self.new.marks ≡ self.old.marks)
+            × (self.new.past.items ≡ self.old.past.items)) }
     {
         self.past.push(next.copy(alloc)?)?;
         self.marks = next;
@@ -115,11 +119,17 @@ impl Upkeep {
     /// Follows an event that changes the marks or the snapshot. `era` is the present one.
     fn follow_metadata(&mut self, alloc: Global, era: u32, event: &Event) -> Result<(), Memory>
         requires { self.old.marks.era ≡ era }
-        ensures marks { (h : List Happening) → self.old.marks ≡ marks_of h → OnOk result (self.new.marks ≡ marks_of (Happened event.now ∷ h)) }
-        ensures held { (h : List Happening) → self.old.marks ≡ marks_of h → self.old.held ≡ held_of h → OnOk result (self.new.held ≡ held_of (Happened event.now ∷ h)) }
-        ensures past { OnOk result (HasPushed self.old.past.items self.old.marks self.new.past.items self.new.marks) }
-        ensures origin { (self.new.writes.items ≡ self.old.writes.items) × (self.new.contents.items ≡ self.old.contents.items) }
-        ensures err { OnErr result ((self.new.marks ≡ self.old.marks) × (self.new.past.items ≡ self.old.past.items) × (self.new.held ≡ self.old.held)) }
+        ensures marks { (h : List Happening) → self.old.marks ≡ marks_of h
+            → OnOk result (self.new.marks ≡ marks_of (Happened event.now ∷ h)) }
+        ensures held { (h : List Happening) → self.old.marks ≡ marks_of h
+            → self.old.held ≡ held_of h
+            → OnOk result (self.new.held ≡ held_of (Happened event.now ∷ h)) }
+        ensures past { OnOk result
+            (HasPushed self.old.past.items self.old.marks self.new.past.items self.new.marks) }
+        ensures origin { (self.new.writes.items ≡ self.old.writes.items)
+            × (self.new.contents.items ≡ self.old.contents.items) }
+        ensures err { OnErr result ((self.new.marks ≡ self.old.marks)
+            × (self.new.past.items ≡ self.old.past.items) × (self.new.held ≡ self.old.held)) }
     {
         match event {
             Event::Mark {
@@ -159,11 +169,15 @@ impl Upkeep {
     /// Follows an event that changes the block's content.
     fn follow_block(&mut self, alloc: Global, block: u32, event: &Event) -> Result<(), Memory>
         requires { target_block self.old.writes.items event.now ≡ Some block }
-        ensures flight { (h : List Happening) → self.old.writes.items ≡ in_flight h → OnOk result (self.new.writes.items ≡ in_flight (Happened event.now ∷ h)) }
-        ensures contents { (h : List Happening) → self.old.writes.items ≡ in_flight h → HaveContents h self.old.contents.items
+        ensures flight { (h : List Happening) → self.old.writes.items ≡ in_flight h
+            → OnOk result (self.new.writes.items ≡ in_flight (Happened event.now ∷ h)) }
+        ensures contents { (h : List Happening) → self.old.writes.items ≡ in_flight h
+            → HaveContents h self.old.contents.items
             → OnOk result (HaveContents (Happened event.now ∷ h) self.new.contents.items) }
-        ensures metadata { (self.new.marks ≡ self.old.marks) × (self.new.past.items ≡ self.old.past.items) × (self.new.held ≡ self.old.held) }
-        ensures err { OnErr result ((self.new.writes.items ≡ self.old.writes.items) × (self.new.contents.items ≡ self.old.contents.items)) }
+        ensures metadata { (self.new.marks ≡ self.old.marks)
+            × (self.new.past.items ≡ self.old.past.items) × (self.new.held ≡ self.old.held) }
+        ensures err { OnErr result ((self.new.writes.items ≡ self.old.writes.items)
+            × (self.new.contents.items ≡ self.old.contents.items)) }
     {
         let index = block as usize;
         if self.contents.len() <= index {
@@ -178,11 +192,15 @@ impl Upkeep {
 
     /// Follows an event that leaves the marks and the snapshot.
     fn follow_origin(&mut self, alloc: Global, event: &Event) -> Result<(), Memory>
-        ensures flight { (h : List Happening) → self.old.writes.items ≡ in_flight h → OnOk result (self.new.writes.items ≡ in_flight (Happened event.now ∷ h)) }
-        ensures contents { (h : List Happening) → self.old.writes.items ≡ in_flight h → HaveContents h self.old.contents.items
+        ensures flight { (h : List Happening) → self.old.writes.items ≡ in_flight h
+            → OnOk result (self.new.writes.items ≡ in_flight (Happened event.now ∷ h)) }
+        ensures contents { (h : List Happening) → self.old.writes.items ≡ in_flight h
+            → HaveContents h self.old.contents.items
             → OnOk result (HaveContents (Happened event.now ∷ h) self.new.contents.items) }
-        ensures metadata { (self.new.marks ≡ self.old.marks) × (self.new.past.items ≡ self.old.past.items) × (self.new.held ≡ self.old.held) }
-        ensures err { OnErr result ((self.new.writes.items ≡ self.old.writes.items) × (self.new.contents.items ≡ self.old.contents.items)) }
+        ensures metadata { (self.new.marks ≡ self.old.marks)
+            × (self.new.past.items ≡ self.old.past.items) × (self.new.held ≡ self.old.held) }
+        ensures err { OnErr result ((self.new.writes.items ≡ self.old.writes.items)
+            × (self.new.contents.items ≡ self.old.contents.items)) }
     {
         match target_of(self.writes.as_slice(), event) {
             Some(block) => self.follow_block(alloc, block, event),
@@ -193,8 +211,10 @@ impl Upkeep {
     /// Follows an event of a session that is open. `era` is the present one. After `Memory` nothing has changed.
     pub fn follow(&mut self, alloc: Global, era: u32, event: &Event) -> Result<(), Memory>
         requires { self.old.marks.era ≡ era }
-        ensures ok { (h : List Happening) → is_open h ≡ true → IsKeptUp h self.old → OnOk result (IsKeptUp (Happened event.now ∷ h) self.new) }
-        ensures err { (h : List Happening) → IsKeptUp h self.old → OnErr result (IsKeptUp h self.new) }
+        ensures ok { (h : List Happening) → is_open h ≡ true → IsKeptUp h self.old
+            → OnOk result (IsKeptUp (Happened event.now ∷ h) self.new) }
+        ensures err { (h : List Happening) → IsKeptUp h self.old
+            → OnErr result (IsKeptUp h self.new) }
     {
         if is_of_metadata(event) {
             self.follow_metadata(alloc, era, event)
@@ -205,7 +225,8 @@ impl Upkeep {
 
     /// Follows a crash.
     pub fn crash(&mut self)
-        ensures { (h : List Happening) (images : Images) → IsKeptUp h self.old → IsKeptUp (Crashed images ∷ h) self.new }
+        ensures { (h : List Happening) (images : Images) → IsKeptUp h self.old
+            → IsKeptUp (Crashed images ∷ h) self.new }
     {
         self.past.clear();
     }

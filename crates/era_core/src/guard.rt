@@ -31,7 +31,8 @@ pub fn is_inside(inside: &[bool], stripe: u32) -> bool
 
 /// Whether the stripe, where it is known, is inside.
 fn is_known_inside(inside: &[bool], stripe: Option<u32>) -> bool
-    ensures { (h : List Happening) (kept : List ℕ) → (IsTrue result ↔ IsInside (core_of h inside.now kept) stripe) }
+    ensures { (h : List Happening) (kept : List ℕ)
+        → (IsTrue result ↔ IsInside (core_of h inside.now kept) stripe) }
 {
     match stripe {
         Some(stripe) => is_inside(inside, stripe),

@@ -2,7 +2,8 @@
 //! nothing; their clauses are the laws.
 
 ghost use Rattle.std.specs.Prelude.{◌≢◌, List, []};
-ghost use Rattle.era_core.specs.Machine.{CoreState, IsEnabled, after_step};
+ghost use Rattle.era_core.specs.AfterSteps.{after_step};
+ghost use Rattle.era_core.specs.Machine.{CoreState, IsEnabled};
 ghost use Rattle.era_core.specs.Schedules.{HasLegalSessions, IsSchedule, IsScheduled};
 ghost use Rattle.era_core.specs.declared.step.Step.{Step};
 ghost use Rattle.era_model.specs.Legal.{IsLegal};

@@ -1,6 +1,7 @@
 //! The pure machine: every order of writers, faults, crashes and reopenings, without a thread or a disk.
 #![tactic(auto)]
 
+mod block_lists;
 mod block_set;
 mod block_table;
 mod conditions;

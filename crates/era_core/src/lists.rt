@@ -28,7 +28,9 @@ fn end_below(runs: &[(u32, u32)], blocks: u32) -> bool
 
 /// Whether the block is listed exactly where its last marked era is at least the wanted one.
 fn is_listed_right(h: &[Happening], runs: &[(u32, u32)], since: u32, block: u32) -> bool
-    ensures { IsTrue result ↔ (runs_cover runs.now block ≡ nat_le (max since 1) (journal_last_era (reverse h.now) block)) }
+    ensures { IsTrue result
+        ↔ (runs_cover runs.now block
+        ≡ nat_le (max since 1) (journal_last_era (reverse h.now) block)) }
 {
     is_covered(runs, block) == (since.max(1) <= last_era_of(h, block))
 }
@@ -56,7 +58,8 @@ fn is_listed_by(held: &BlockTable, runs: &[(u32, u32)], since: u32, block: u32) 
 
 /// Whether the runs are exactly the blocks that the marks have since that era.
 fn lists_marks(held: &BlockTable, since: u32, runs: &Runs) -> bool
-    ensures { IsTrue result ↔ ListsExactly (blocks_of_marks held.now) (written_since held.now since) runs.now }
+    ensures { IsTrue result
+        ↔ ListsExactly (blocks_of_marks held.now) (written_since held.now since) runs.now }
 {
     let listed = runs.as_slice();
     for block in 0..held.blocks() {

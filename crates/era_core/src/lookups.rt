@@ -97,7 +97,8 @@ pub fn present_era(h: &[Happening]) -> u32
 }
 
 fn follow_marked(before: bool, happening: &Happening, block: u32, era: u32) -> bool
-    ensures { (h : List Happening) → before ≡ is_marked_in h block era → result ≡ is_marked_in (happening.now ∷ h) block era }
+    ensures { (h : List Happening) → before ≡ is_marked_in h block era
+        → result ≡ is_marked_in (happening.now ∷ h) block era }
 {
     match happening {
         Happening::Opened(_) => false,
@@ -124,7 +125,8 @@ pub fn is_marked(h: &[Happening], block: u32, era: u32) -> bool
 }
 
 fn follow_tried(before: bool, happening: &Happening, block: u32, era: u32) -> bool
-    ensures { (h : List Happening) → before ≡ is_tried_in h block era → result ≡ is_tried_in (happening.now ∷ h) block era }
+    ensures { (h : List Happening) → before ≡ is_tried_in h block era
+        → result ≡ is_tried_in (happening.now ∷ h) block era }
 {
     match happening {
         Happening::Opened(_) => false,
@@ -151,7 +153,8 @@ pub fn is_tried(h: &[Happening], block: u32, era: u32) -> bool
 }
 
 fn follow_trace(before: bool, happening: &Happening, trace: Trace, id: CmdId) -> bool
-    ensures { (h : List Happening) → before ≡ some_event h (leaves_trace trace id) → result ≡ some_event (happening.now ∷ h) (leaves_trace trace id) }
+    ensures { (h : List Happening) → before ≡ some_event h (leaves_trace trace id)
+        → result ≡ some_event (happening.now ∷ h) (leaves_trace trace id) }
 {
     match happening {
         Happening::Opened(_) => false,
@@ -172,7 +175,8 @@ pub fn has_trace(h: &[Happening], trace: Trace, id: CmdId) -> bool
 }
 
 fn follow_last_era(before: u32, happening: &Happening, block: u32) -> u32
-    ensures { (h : List Happening) → before ≡ journal_last_era h block → result ≡ journal_last_era (happening.now ∷ h) block }
+    ensures { (h : List Happening) → before ≡ journal_last_era h block
+        → result ≡ journal_last_era (happening.now ∷ h) block }
 {
     match happening {
         Happening::Opened(opening) => opening.marks.last_era(block),
@@ -199,7 +203,8 @@ pub fn last_era_of(h: &[Happening], block: u32) -> u32
 }
 
 fn follow_written_block(before: Option<u32>, happening: &Happening, id: CmdId) -> Option<u32>
-    ensures { (h : List Happening) → before ≡ written_block h id → result ≡ written_block (happening.now ∷ h) id }
+    ensures { (h : List Happening) → before ≡ written_block h id
+        → result ≡ written_block (happening.now ∷ h) id }
 {
     match happening {
         Happening::Opened(_) => None,
@@ -230,7 +235,8 @@ pub fn written_block_of(h: &[Happening], id: CmdId) -> Option<u32>
 }
 
 fn follow_last_switch(before: Option<CmdId>, happening: &Happening) -> Option<CmdId>
-    ensures { (h : List Happening) → before ≡ switch_before_refusals h → result ≡ switch_before_refusals (happening.now ∷ h) }
+    ensures { (h : List Happening) → before ≡ switch_before_refusals h
+        → result ≡ switch_before_refusals (happening.now ∷ h) }
 {
     match happening {
         Happening::Opened(_) => None,
@@ -256,7 +262,8 @@ pub fn last_switch(h: &[Happening]) -> Option<CmdId>
 }
 
 fn follow_opening<'a>(before: Option<&'a Opening>, happening: &'a Happening) -> Option<&'a Opening>
-    ensures { (h : List Happening) → option_copied before.entry ≡ opening_in h → option_copied result ≡ opening_in (happening.now ∷ h) }
+    ensures { (h : List Happening) → option_copied before.entry ≡ opening_in h
+        → option_copied result ≡ opening_in (happening.now ∷ h) }
 {
     match happening {
         Happening::Opened(opening) => Some(opening),
@@ -280,7 +287,8 @@ fn follow_last_event<'a>(
     happening: &'a Happening,
     id: CmdId,
 ) -> Option<&'a Event>
-    ensures { (h : List Happening) → option_copied before.entry ≡ last_drawn h id → option_copied result ≡ last_drawn (happening.now ∷ h) id }
+    ensures { (h : List Happening) → option_copied before.entry ≡ last_drawn h id
+        → option_copied result ≡ last_drawn (happening.now ∷ h) id }
 {
     match happening {
         Happening::Opened(_) => None,

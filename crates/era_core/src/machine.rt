@@ -2,7 +2,8 @@
 
 ghost use Rattle.std.specs.Prelude.{◌≡◌, ◌↔◌, IfOk, IsTrue, OnErr, OnOk, if◌then◌else◌, reverse};
 ghost use Rattle.era_core.specs.KeptState.{IsKept};
-ghost use Rattle.era_core.specs.Machine.{CoreState, IsEnabled, MayLeaveImages, MayReopen, MayTake, after_step, is_metadata_event, opened_core, reopened, with_event, with_stripe};
+ghost use Rattle.era_core.specs.AfterSteps.{after_step, is_metadata_event, reopened, with_event, with_stripe};
+ghost use Rattle.era_core.specs.Machine.{CoreState, IsEnabled, MayLeaveImages, MayReopen, MayTake, opened_core};
 ghost use Rattle.era_core.specs.declared.step.Step.TheVariants.{Crash};
 ghost use Rattle.era_model.specs.Legal.{IsOpening};
 ghost use Rattle.era_model.specs.PlainCalls.{TellsAllBytes};
@@ -40,7 +41,8 @@ impl Model for Core {
 
 /// Behind an event of the metadata the count alone is kept.
 fn follow_kept(kept: &mut Vec<u32>, count: Vec<u32>, event: &Event)
-    ensures { kept.new.items ≡ (if is_metadata_event event.now then count.items else kept.old.items) }
+    ensures { kept.new.items
+        ≡ (if is_metadata_event event.now then count.items else kept.old.items) }
 {
     if is_metadata_event(event) {
         *kept = count;
@@ -66,6 +68,13 @@ impl Core {
             kept,
             upkeep,
         })
+    }
+
+    /// What has happened so far over all sessions, the earliest first.
+    pub fn happenings(&self) -> &[Happening]
+        ensures { reverse result.now ≡ self.now.history }
+    {
+        self.happenings.as_slice()
     }
 
     /// Whether the step may happen: exactly where it meets its conditions. It takes no memory.

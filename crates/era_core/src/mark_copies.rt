@@ -74,7 +74,8 @@ fn merge_entry(entry: &mut u32, block: usize, set: &MarkedSet)
 /// Gives each block that is in the set the set's era as its entry.
 fn merge_set(entries: &mut Vec<u32>, set: &MarkedSet)
     requires { length entries.old.items < 2 ^ 32 }
-    ensures { entries.new.items ≡ transcribed record { era = set.now.era; blocks = flags_of_runs 0 (length entries.old.items) set.now.blocks }
+    ensures { entries.new.items ≡ transcribed
+        record { era = set.now.era; blocks = flags_of_runs 0 (length entries.old.items) set.now.blocks }
         (λ block. true) 0 entries.old.items }
 {
     for (block, entry) in entries.iter_mut().enumerate() {

@@ -75,7 +75,8 @@ pub fn written_stripe_of(h: &[Happening], id: CmdId) -> Option<u32>
 
 /// The block size in sectors, 0 before the first session.
 pub fn block_size(h: &[Happening]) -> u32
-    ensures value { result ≡ at_opening 0 (λ opening. opening.geometry.block_sectors) (reverse h.now) }
+    ensures value { result
+        ≡ at_opening 0 (λ opening. opening.geometry.block_sectors) (reverse h.now) }
     ensures small { result ≤ 128 }
 {
     match present_opening(h) {

@@ -15,7 +15,9 @@ pub fn reads_as(
     bytes: &[u8],
 ) -> bool
     requires { start < 2 ^ 48 }
-    ensures { IsTrue result ↔ ((offset : ℕ) → offset < length bytes.now → is_cut_at writes.now block (start + offset) ≡ false
+    ensures { IsTrue result
+        ↔ ((offset : ℕ) → offset < length bytes.now
+        → is_cut_at writes.now block (start + offset) ≡ false
         → slice_index bytes.now offset ≡ slice_index content.now (start + offset)) }
 {
     for (offset, byte) in bytes.iter().enumerate() {

@@ -76,7 +76,8 @@ fn may_hold(
     found: Option<&Marks>,
 ) -> bool
     requires { HavePast (reverse h.now) past.now }
-    ensures { IsTrue result ↔ MayHold (reverse h.now) (option_copied held.entry) (option_copied found.entry) }
+    ensures { IsTrue result
+        ↔ MayHold (reverse h.now) (option_copied held.entry) (option_copied found.entry) }
 {
     match held {
         Some(held) => found.is_none() || is_held(held, found),
@@ -86,7 +87,8 @@ fn may_hold(
 
 /// The first of so many blocks for which the marks haven't the journal's last marked era, or `None`.
 fn first_exception(h: &[Happening], m: &Marks, blocks: u32) -> Option<u32>
-    ensures { MatchOption result ((block : ℕ) → block < blocks → HasJournalLast (reverse h.now) m.now block)
+    ensures { MatchOption result ((block : ℕ) → block < blocks
+        → HasJournalLast (reverse h.now) m.now block)
         (λ exception. (exception < blocks) × (¬ HasJournalLast (reverse h.now) m.now exception)
         × ((block : ℕ) → block < exception → HasJournalLast (reverse h.now) m.now block)) }
 {
@@ -101,7 +103,9 @@ fn first_exception(h: &[Happening], m: &Marks, blocks: u32) -> Option<u32>
 /// Whether the marks have the journal's last marked era for each block behind one.
 fn others_agree(h: &[Happening], m: &Marks, exception: u32, blocks: u32) -> bool
     requires { exception < blocks }
-    ensures { IsTrue result ↔ ((block : ℕ) → exception < block → block < blocks → HasJournalLast (reverse h.now) m.now block) }
+    ensures { IsTrue result
+        ↔ ((block : ℕ) → exception < block → block < blocks
+        → HasJournalLast (reverse h.now) m.now block) }
 {
     for block in exception + 1..blocks {
         if !has_journal_last(h, m, block) {
@@ -113,7 +117,8 @@ fn others_agree(h: &[Happening], m: &Marks, exception: u32, blocks: u32) -> bool
 
 /// Whether the marks have the journal's last marked eras, but for one exceptional block at most.
 pub fn may_have_lasts(h: &[Happening], m: &Marks) -> bool
-    ensures { IsTrue result ↔ ((exception : Option ℕ) × HaveJournalLasts (reverse h.now) m.now exception) }
+    ensures { IsTrue result
+        ↔ ((exception : Option ℕ) × HaveJournalLasts (reverse h.now) m.now exception) }
 {
     let blocks = block_count(h);
     match first_exception(h, m, blocks) {

@@ -2,7 +2,8 @@
 
 ghost use Rattle.std.specs.Prelude.{◌≡◌, ◌<◌, IfOk, reverse};
 ghost use Rattle.era_core.specs.KeptState.{next_opening};
-ghost use Rattle.era_core.specs.Machine.{MayReopen, reopening};
+ghost use Rattle.era_core.specs.AfterSteps.{reopening};
+ghost use Rattle.era_core.specs.Machine.{MayReopen};
 
 use crate::copies::{copy_contents, copy_snapshot};
 use crate::lookups::present_opening;

@@ -1,7 +1,8 @@
 //! A whole list of steps.
 
 ghost use Rattle.std.specs.Prelude.{◌≡◌, ℕ, Err, IfErr, IfOk};
-ghost use Rattle.era_core.specs.Machine.{Run, opened_core};
+ghost use Rattle.era_core.specs.AfterSteps.{Run};
+ghost use Rattle.era_core.specs.Machine.{opened_core};
 ghost use Rattle.era_core.specs.Schedules.{IsSchedule};
 ghost use Rattle.era_core.specs.KeptState.{HasStopped};
 ghost use Rattle.era_model.specs.Legal.{IsOpening};

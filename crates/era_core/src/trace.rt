@@ -1,7 +1,7 @@
 //! Events of a command that a session is searched for.
 
 ghost use Rattle.std.specs.Prelude.{◌≡◌};
-ghost use Rattle.era_core.specs.Machine.{is_metadata_event};
+ghost use Rattle.era_core.specs.AfterSteps.{is_metadata_event};
 ghost use Rattle.era_core.specs.Present.{leaves_trace};
 
 use era_base::CmdId;

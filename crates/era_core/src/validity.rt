@@ -10,7 +10,8 @@ use era_model::{MarkedSet, Marks};
 
 /// Whether the sets' eras ascend below one.
 fn do_ascend(sets: &[MarkedSet], below: u32) -> bool
-    ensures { (blocks : ℕ) → (IsTrue result ↔ AreArchivedBetween blocks 0 below (sets_of_runs blocks sets.now)) }
+    ensures { (blocks : ℕ)
+        → (IsTrue result ↔ AreArchivedBetween blocks 0 below (sets_of_runs blocks sets.now)) }
 {
     let mut above = 0;
     for set in sets {
@@ -37,7 +38,8 @@ fn limit_of(sets: &[MarkedSet], era: u32) -> u32
 
 /// Whether no entry of so many blocks is above the limit.
 fn are_within(runs: &[(u32, u32, u32)], blocks: u32, limit: u32) -> bool
-    ensures { IsTrue result ↔ ((block : ℕ) → entry_of (eras_of_runs 0 blocks runs.now) block ≤ limit) }
+    ensures { IsTrue result
+        ↔ ((block : ℕ) → entry_of (eras_of_runs 0 blocks runs.now) block ≤ limit) }
 {
     for block in 0..blocks {
         if limit < run_era(runs, block) {

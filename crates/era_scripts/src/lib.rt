@@ -4,7 +4,15 @@
 #[cfg(test)]
 mod adapters;
 #[cfg(test)]
+mod chains;
+#[cfg(test)]
+mod crash_schedules;
+#[cfg(test)]
 mod fuses;
+#[cfg(test)]
+mod metadata_schedules;
+#[cfg(test)]
+mod moves;
 #[cfg(test)]
 mod plain_calls;
 #[cfg(test)]
@@ -20,6 +28,16 @@ mod slot_subsets;
 #[cfg(test)]
 mod slot_wipes;
 #[cfg(test)]
+mod small_events;
+#[cfg(test)]
+mod small_images;
+#[cfg(test)]
 mod small_lists;
 #[cfg(test)]
+mod small_sessions;
+#[cfg(test)]
+mod tables;
+#[cfg(test)]
 mod tears;
+#[cfg(test)]
+mod write_schedules;

@@ -3,11 +3,9 @@
 ghost use Rattle.std.specs.Prelude.{◌≤◌, IfOk};
 ghost use Rattle.era_model.specs.PlainCalls.{TellsAllBytes};
 
-use era_base::{Bytes, CmdId, Geometry, Memory, Runs};
-use era_model::{
-    Contents, Entry, EntryList, EraRuns, Event, Journal, Marks, Opening, SetList, asked_since,
-    changed_since, content_at,
-};
+use crate::small_sessions::small_opening;
+use era_base::{Bytes, CmdId, Memory};
+use era_model::{Entry, EntryList, Event, Journal, asked_since, changed_since, content_at};
 use std::alloc::Global;
 use std::test::*;
 
@@ -16,41 +14,26 @@ fn sector_of(alloc: Global, byte: u8) -> Result<Bytes, Memory> {
     Ok(Bytes::from_vec(vec![in alloc; byte; 512]?))
 }
 
-/// A first session over 64 blocks of zeros.
-fn small_opening(alloc: Global) -> Result<Opening, Fail>
-    ensures { IfOk result TellsAllBytes }
-{
-    let geometry = Geometry::new(512, 8)?;
-    let zeros = Bytes::from_vec(vec![in alloc; 0; 262_144]?);
-    Ok(Opening {
-        geometry,
-        era: 1,
-        marks: Marks {
-            geometry,
-            era: 1,
-            array: EraRuns::new(alloc),
-            archive: SetList::new(alloc),
-            current: Runs::new(alloc),
-        },
-        held: None,
-        total: 57,
-        stripes: 4,
-        contents: Contents { bytes: Some(zeros) },
-    })
+/// What the two writes leave in sectors 0 and 1.
+fn two_sectors(alloc: Global) -> Result<Bytes, Memory> {
+    let mut bytes = vec![in alloc; 0xaa; 512]?;
+    bytes.extend_from_slice([0xbb; 512].as_slice())?;
+    Ok(Bytes::from_vec(bytes))
 }
 
-/// A write of one sector of block 0, acknowledged. Its first event has this place.
+/// A write of this byte to a sector of block 0, acknowledged. Its first event has this place.
 fn write_sector(
     alloc: Global,
     entries: &mut EntryList,
     place: u64,
     number: u32,
     first: u32,
+    byte: u8,
 ) -> Result<(), Memory>
     requires { place ≤ 100 }
 {
     let id = CmdId { lane: 0, number };
-    let bytes = sector_of(alloc, 170)?;
+    let bytes = sector_of(alloc, byte)?;
     entries.push(Entry {
         place,
         event: Event::Go {
@@ -89,14 +72,14 @@ fn two_writes_and_a_read(alloc: Global) -> Result<Journal, Fail>
             era: 1,
         },
     })?;
-    write_sector(alloc, &mut entries, 2, 0, 0)?;
-    write_sector(alloc, &mut entries, 4, 1, 1)?;
+    write_sector(alloc, &mut entries, 2, 0, 0, 0xaa)?;
+    write_sector(alloc, &mut entries, 4, 1, 1, 0xbb)?;
     entries.push(Entry {
         place: 6,
         event: Event::Read {
             id: CmdId { lane: 0, number: 2 },
             sector: 0,
-            bytes: Bytes::new(alloc),
+            bytes: two_sectors(alloc)?,
         },
     })?;
     Ok(Journal {
@@ -110,8 +93,9 @@ fn plain_calls_tell_what_was_written(rt: HostRuntime) -> Result<(), Fail> {
     let journal = two_writes_and_a_read(rt.alloc())?;
     assert_eq!(rt; journal.entries.as_slice().len(), 7);
     let content = content_at(rt.alloc(), &journal, 6, 0)?;
-    let mut expected = vec![in rt.alloc(); 170; 1024]?;
-    expected.extend_from_slice(vec![in rt.alloc(); 0; 3072]?.as_slice())?;
+    let mut expected = vec![in rt.alloc(); 0xaa; 512]?;
+    expected.extend_from_slice([0xbb; 512].as_slice())?;
+    expected.extend_from_slice([0; 3_072].as_slice())?;
     assert!(rt; content.as_slice() == expected.as_slice());
     let changed = changed_since(rt.alloc(), &journal, 7, 1)?;
     assert_eq!(rt; changed.as_slice().len(), 1);

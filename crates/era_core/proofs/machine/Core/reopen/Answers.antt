@@ -1,7 +1,8 @@
 use Rattle.std.proofs.Common.{◌≡◌, ◌∙◌, [], ◌∷◌, Some, None, false, replicate, refl, sym, subst, arith}
 use Rattle.std.specs.Prelude.{reverse}
 use Rattle.era_core.specs.KeptState.{core_of, next_opening}
-use Rattle.era_core.specs.Machine.{MayReopen, reopened}
+use Rattle.era_core.specs.AfterSteps.{reopened}
+use Rattle.era_core.specs.Machine.{MayReopen}
 use Rattle.era_model.specs.declared.history.Happening.TheVariants.{Opened}
 use Rattle.era_core.proofs.Latest.{latest-pushed}
 use Rattle.era_core.proofs.NextSession.{few-stripes, reopened-is, reopened-none, sound-next}

@@ -1,6 +1,7 @@
 use Rattle.std.proofs.Common.{◌≡◌, ◌∙◌, [], ◌∷◌, refl, sym, ap, subst}
 use Rattle.std.specs.Prelude.{reverse, if◌then◌else◌}
-use Rattle.era_core.specs.Machine.{MayTake, count_inside, is_metadata_event}
+use Rattle.era_core.specs.AfterSteps.{is_metadata_event}
+use Rattle.era_core.specs.Machine.{MayTake, count_inside}
 use Rattle.era_model.specs.declared.history.Happening.TheVariants.{Happened}
 use Rattle.era_core.proofs.Latest.{latest-pushed}
 use Rattle.era_core.proofs.machine.Core.take.Goals as goal

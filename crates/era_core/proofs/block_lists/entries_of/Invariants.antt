@@ -1,6 +1,6 @@
 use Rattle.std.proofs.Common.{◌≡◌}
 use Rattle.era_model.specs.MarkRuns.{eras_of_runs}
-use Rattle.era_core.proofs.block_table.entries_of.Given as goal
+use Rattle.era_core.proofs.block_lists.entries_of.Given as goal
 
 abbrev pub invariant-loop-block : goal.invariant-loop-block
 invariant-loop-block l = l.entries.items ≡ eras_of_runs 0 l.block l.runs

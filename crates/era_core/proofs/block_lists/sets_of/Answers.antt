@@ -1,5 +1,5 @@
 use Rattle.era_core.proofs.Tables.{sets-push}
-use Rattle.era_core.proofs.block_table.sets_of.Goals as goal
+use Rattle.era_core.proofs.block_lists.sets_of.Goals as goal
 
 -- one more set is laid out
 pub loop-set-preserved : goal.loop-set-preserved

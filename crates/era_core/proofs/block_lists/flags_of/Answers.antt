@@ -1,5 +1,5 @@
 use Rattle.era_core.proofs.Tables.{flags-push}
-use Rattle.era_core.proofs.block_table.flags_of.Goals as goal
+use Rattle.era_core.proofs.block_lists.flags_of.Goals as goal
 
 -- one more block has its flag
 pub loop-block-preserved : goal.loop-block-preserved

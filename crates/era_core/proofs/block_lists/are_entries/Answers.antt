@@ -2,7 +2,7 @@ use Rattle.std.proofs.Common.{◌∙◌, ◌<◌, length, get_or, ap, sym, arith
 use Rattle.std.proofs.lemmas.Bool.{false≢true}
 use Rattle.std.proofs.lemmas.List.{take_more}
 use Rattle.era_core.proofs.Tables.{era-of, eras-length, eras-push}
-use Rattle.era_core.proofs.block_table.are_entries.Goals as goal
+use Rattle.era_core.proofs.block_lists.are_entries.Goals as goal
 
 -- there are more or fewer entries
 pub returns-then-entries-blocks : goal.returns-then-entries-blocks

@@ -1,5 +1,5 @@
 use Rattle.era_core.proofs.Tables.{eras-push}
-use Rattle.era_core.proofs.block_table.entries_of.Goals as goal
+use Rattle.era_core.proofs.block_lists.entries_of.Goals as goal
 
 -- one more block has its entry
 pub loop-block-preserved : goal.loop-block-preserved

@@ -2,7 +2,7 @@ use Rattle.std.proofs.Common.{◌∙◌, ◌<◌, arith, false, length, get_or, 
 use Rattle.std.proofs.lemmas.Bool.{false≢true}
 use Rattle.std.proofs.lemmas.List.{take_more}
 use Rattle.era_core.proofs.Tables.{agree, differ, flag-of, flags-length, flags-push}
-use Rattle.era_core.proofs.block_table.are_flags.Goals as goal
+use Rattle.era_core.proofs.block_lists.are_flags.Goals as goal
 
 -- there are more or fewer flags
 pub returns-then-flags-blocks : goal.returns-then-flags-blocks

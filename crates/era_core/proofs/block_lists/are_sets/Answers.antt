@@ -2,7 +2,7 @@ use Rattle.std.proofs.Common.{◌∙◌, ◌<◌, arith, refl, length, get_or, a
 use Rattle.std.proofs.lemmas.Bool.{false≢true}
 use Rattle.std.proofs.lemmas.List.{take_more}
 use Rattle.era_core.proofs.Tables.{set-of, sets-length, sets-push}
-use Rattle.era_core.proofs.block_table.are_sets.Goals as goal
+use Rattle.era_core.proofs.block_lists.are_sets.Goals as goal
 
 -- there are more or fewer sets
 pub returns-then-sets-marked : goal.returns-then-sets-marked

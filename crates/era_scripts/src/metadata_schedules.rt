@@ -1,0 +1,226 @@
+//! Schedules of eras, snapshots, digests, lists and refusals, each refused by one rule.
+
+use crate::moves::Move;
+use crate::moves::Move::{
+    Digest, Dropped, Enter, Kept, Leave, List, ListSnap, Mark, Refused, Roll, Snap, Status, Tried,
+};
+use crate::tables::{BROKEN, MARKED, OPEN, Row, WRITTEN, first_unmet};
+use era_model::{Kind, Why};
+use std::test::Fail;
+
+/// Block 0 is marked in era 1, and era 2 is present.
+const ARCHIVED: [Move; 3] = [Tried(0, 0, 1), Mark(0, 0, 1), Roll(1, 2)];
+
+/// The era moved to 2, and the metadata disk failed then, with a count of 3.
+const VOLATILE: [Move; 2] = [Roll(0, 2), Refused(0, Kind::Checkpoint, Why::MetaFault(3))];
+
+#[test]
+fn eras_move_and_stay_by_their_rules(rt: HostRuntime) -> Result<(), Fail> {
+    let left = [Enter(0), Leave(0), Tried(0, 0, 1)];
+    let left = left.as_slice();
+    let rows: [Row; 9] = [
+        ("no open write", &OPEN, &[Roll(1, 2)], 4),
+        ("no cut write", &BROKEN, &[Roll(1, 2)], 5),
+        ("no stripe inside", &WRITTEN, &[Roll(1, 2)], 5),
+        ("the next era", &[], &[Roll(0, 3)], 0),
+        ("a later era", &[], &[Roll(0, 1)], 0),
+        ("stays for some stripe", &[], &[Kept(0, 0)], 0),
+        ("stays for a stripe inside", &[], &[Kept(0, 1)], 0),
+        ("stays for their number", &[Enter(0)], &[Kept(0, 2)], 1),
+        ("stays for one that was inside", left, &[Kept(0, 1)], 3),
+    ];
+    assert_eq!(rt; first_unmet(rt.alloc(), rows.as_slice())?, None);
+    Ok(())
+}
+
+#[test]
+fn snapshots_and_digests_follow_their_rules(rt: HostRuntime) -> Result<(), Fail> {
+    let page = Some(0);
+    let rows: [Row; 11] = [
+        ("one snapshot", &[Snap(0, 2)], &[Snap(1, 2)], 1),
+        ("at metadata block 2", &[], &[Snap(0, 3)], 0),
+        ("a held one is dropped", &[], &[Dropped(0)], 0),
+        ("dropped once", &[Snap(0, 2), Dropped(1)], &[Dropped(2)], 2),
+        ("an archived set", &MARKED, &[Digest(1, 1, page)], 2),
+        ("its era", &ARCHIVED, &[Digest(2, 2, page)], 3),
+        ("its least page", &ARCHIVED, &[Digest(2, 1, Some(1))], 3),
+        ("not dropped before", &ARCHIVED, &[Digest(2, 1, None)], 3),
+        (
+            "a page once",
+            &ARCHIVED,
+            &[Digest(2, 1, page), Digest(3, 1, page)],
+            4,
+        ),
+        (
+            "no page of an empty set",
+            &[Roll(0, 2)],
+            &[Digest(1, 1, page)],
+            1,
+        ),
+        (
+            "dropped once",
+            &[Roll(0, 2), Digest(1, 1, None)],
+            &[Digest(2, 1, None)],
+            2,
+        ),
+    ];
+    assert_eq!(rt; first_unmet(rt.alloc(), rows.as_slice())?, None);
+    Ok(())
+}
+
+#[test]
+fn lists_and_statuses_are_exact(rt: HostRuntime) -> Result<(), Fail> {
+    let first = Some((0, 0));
+    let held = [Snap(0, 2), Tried(1, 0, 1), Mark(1, 0, 1)];
+    let held = held.as_slice();
+    let rows: [Row; 12] = [
+        ("no block too many", &MARKED, &[List(1, 1, Some((0, 1)))], 2),
+        ("no block too few", &MARKED, &[List(1, 1, None)], 2),
+        (
+            "no block of an earlier era",
+            &ARCHIVED,
+            &[List(2, 2, first)],
+            3,
+        ),
+        (
+            "no block past the end",
+            &[],
+            &[List(0, 1, Some((64, 64)))],
+            0,
+        ),
+        ("the snapshot is held", &[], &[ListSnap(0, 1, None)], 0),
+        ("as the snapshot has it", held, &[ListSnap(2, 1, first)], 3),
+        ("used blocks", &[], &[Status(0, 5, 57, 1, None)], 0),
+        (
+            "used blocks with a snapshot",
+            held,
+            &[Status(2, 4, 57, 1, Some(2))],
+            3,
+        ),
+        ("all blocks", &[], &[Status(0, 4, 56, 1, None)], 0),
+        ("present era", &[], &[Status(0, 4, 57, 2, None)], 0),
+        ("no snapshot", &[], &[Status(0, 4, 57, 1, Some(2))], 0),
+        ("the snapshot", held, &[Status(2, 5, 57, 1, None)], 3),
+    ];
+    assert_eq!(rt; first_unmet(rt.alloc(), rows.as_slice())?, None);
+    Ok(())
+}
+
+#[test]
+fn a_refusal_has_its_cause(rt: HostRuntime) -> Result<(), Fail> {
+    let held = [Snap(0, 2)];
+    let held = held.as_slice();
+    let rows: [Row; 7] = [
+        (
+            "the last era",
+            &[],
+            &[Refused(0, Kind::Checkpoint, Why::End)],
+            0,
+        ),
+        (
+            "a snapshot is held",
+            &[],
+            &[Refused(0, Kind::TakeSnap, Why::Held(2))],
+            0,
+        ),
+        (
+            "at metadata block 2",
+            held,
+            &[Refused(1, Kind::TakeSnap, Why::Held(3))],
+            1,
+        ),
+        (
+            "no snapshot is held",
+            held,
+            &[Refused(1, Kind::DropSnap, Why::NoSnap)],
+            1,
+        ),
+        (
+            "no set is archived",
+            &ARCHIVED,
+            &[Refused(2, Kind::Digest, Why::Idle)],
+            3,
+        ),
+        (
+            "memory for a list",
+            &[],
+            &[Refused(0, Kind::Status, Why::Memory)],
+            0,
+        ),
+        (
+            "memory for a list alone",
+            &[],
+            &[Refused(0, Kind::Write, Why::Memory)],
+            0,
+        ),
+    ];
+    assert_eq!(rt; first_unmet(rt.alloc(), rows.as_slice())?, None);
+    Ok(())
+}
+
+#[test]
+fn a_fault_has_its_cause_and_a_count_that_rose(rt: HostRuntime) -> Result<(), Fail> {
+    let fault = Why::MetaFault(3);
+    let broken = Why::DataFault {
+        stripe: 0,
+        count: 5,
+    };
+    let rows: [Row; 9] = [
+        (
+            "a write that tried",
+            &[],
+            &[Refused(0, Kind::Write, fault)],
+            0,
+        ),
+        (
+            "a checkpoint that moved",
+            &[],
+            &[Refused(0, Kind::Checkpoint, fault)],
+            0,
+        ),
+        (
+            "a list in a volatile era",
+            &[],
+            &[Refused(0, Kind::List, fault)],
+            0,
+        ),
+        (
+            "a status in a volatile era",
+            &[],
+            &[Refused(0, Kind::Status, fault)],
+            0,
+        ),
+        (
+            "an era that is still volatile",
+            &VOLATILE,
+            &[Snap(1, 2), Refused(2, Kind::List, Why::MetaFault(4))],
+            3,
+        ),
+        (
+            "the metadata's count rises",
+            &VOLATILE,
+            &[Refused(1, Kind::List, fault)],
+            2,
+        ),
+        (
+            "it never falls",
+            &VOLATILE,
+            &[Refused(1, Kind::Digest, Why::MetaFault(2))],
+            2,
+        ),
+        (
+            "the part's count rises",
+            &BROKEN,
+            &[Refused(1, Kind::Read, broken)],
+            5,
+        ),
+        (
+            "it rises each time",
+            &[Refused(0, Kind::Read, broken)],
+            &[Refused(1, Kind::Write, broken)],
+            1,
+        ),
+    ];
+    assert_eq!(rt; first_unmet(rt.alloc(), rows.as_slice())?, None);
+    Ok(())
+}
