@@ -1,5 +1,5 @@
 -- What sectors of a plain device read as, when a part of it is copied and when a part is written over.
-use Rattle.std.proofs.Common.{◌≡◌, ℕ, ◌+◌, ◌-◌, ◌*◌, ◌<◌, ◌≤◌, Bool, nat_lt, inl, inr, List, ◌++◌, length, take, drop, Option, Some, None, arith, refl, sym, ◌∙◌, ap, if◌then◌else◌}
+use Rattle.std.proofs.Common.{◌≡◌, ℕ, ◌+◌, ◌-◌, ◌*◌, ◌<◌, ◌≤◌, Bool, nat_lt, inl, inr, List, ◌++◌, length, take, drop, Some, None, arith, refl, sym, ◌∙◌, ap, if◌then◌else◌}
 use Rattle.std.proofs.lemmas.List.{take_at, take-take, drop-take, drop-drop, length-take-le, length-append}
 use Rattle.std.proofs.lemmas.Bool.{lt-ltb, cases_lt}
 use Rattle.std.proofs.lemmas.Option.{same_Some}
