@@ -166,7 +166,3 @@ found-along devices devices' name name' index d n found =
 pub if_ok_then : {T E : Type 0} (r : Result T E) {P Q : T → Type 0} → IfOk r P → ((x : T) → P x → Q x) → IfOk r Q
 if_ok_then (Ok x) p f = f x p
 if_ok_then (Err e) p f = p
-
-pub if_ok_both : {T E : Type 0} (r : Result T E) {P Q R : T → Type 0} → IfOk r P → IfOk r Q → ((x : T) → P x → Q x → R x) → IfOk r R
-if_ok_both (Ok x) p q f = f x p q
-if_ok_both (Err e) p q f = p

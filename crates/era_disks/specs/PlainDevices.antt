@@ -25,10 +25,13 @@ plain_length (Some device) = plain_sectors device
 abbrev pub plain_sector : Option PlainDisk → ℕ → Option (List ℕ)
 plain_sector None sector = None
 plain_sector (Some device) sector =
-    if nat_lt sector (plain_sectors device) then Some (part (sector * 512) 512 (plain_history device).now.seen) else None
+    if nat_lt sector (plain_sectors device)
+    then Some (part (sector * 512) 512 (plain_history device).now.seen)
+    else None
 
 -- Each plain disk that is lent lies within its device.
 abbrev pub LieOnPlain : PlainDevices → List (Loan PlainDisk) → Type 0
 LieOnPlain devices loans =
     (index : ℕ) (loan : Loan PlainDisk) → slice_get loans index ≡ Some loan → loan.back ≡ None
-    → (plain_place loan.lent).first + plain_sectors loan.lent ≤ plain_length (get_by_text devices (plain_place loan.lent).device)
+    → (plain_place loan.lent).first + plain_sectors loan.lent
+    ≤ plain_length (get_by_text devices (plain_place loan.lent).device)

@@ -1,4 +1,5 @@
-//! A bay in memory whose disks never fail. A lent disk has a copy of its sectors, and `put_back` writes them back.
+//! A bay in memory whose disks never fail. A lent disk has a copy of its sectors, and `put_back` writes them into the
+//! device.
 
 ghost use Rattle.std.specs.Prelude.{◌≡◌, ◌+◌, ◌*◌, ◌≤◌, [], IfOk};
 ghost use Rattle.era_base.specs.Bytes.{part, splice};
@@ -13,7 +14,8 @@ use era_base::{Bay, BayError, Bytes, Disk, Memory, Name};
 use std::alloc::Global;
 use std::collections::BTreeMap;
 
-/// Devices in memory, by name, and the loans of them. Each device is a plain disk of all its sectors.
+/// Devices in memory, by name, and the loans of them. Each device is a plain disk of all its sectors. A call fails only
+/// for a name that the bay doesn't hold, and for sectors that are lent.
 #[derive(Drop)]
 pub struct PlainBay {
     alloc: Global,
@@ -26,11 +28,11 @@ pub struct PlainBay {
 impl PlainBay {
     ghost use Rattle.std.specs.Prelude.{◌≡◌, ℕ, List, ◌+◌, ◌*◌, ◌≤◌, [], ◌∷◌, ◌++◌, replicate, Some, None, IfOk, IfSome, IfNone, OnOk, OnErr, IsErrOf, ◌↔◌};
     ghost use Rattle.std.specs.BTreeMap.{get_by_text};
-    ghost use Rattle.era_base.specs.Bay.{new_loan, HasContent, SameReadsBut, ReadsAs, NowReadsAs, IsFree, IsOut, EndsLoan, HasBayCause};
+    ghost use Rattle.era_base.specs.Bay.{new_loan, HasContent, EndsLoan};
     ghost use Rattle.era_disks.specs.Calls.{one_more};
-    ghost use Rattle.era_disks.specs.PlainDisk.{plain_place, plain_sectors, plain_history, IsUnused};
+    ghost use Rattle.era_disks.specs.PlainDisk.{plain_place, plain_sectors, plain_history};
     ghost use Rattle.era_disks.specs.PlainDevices.{plain_length};
-    ghost use Rattle.era_disks.specs.PlainBay.{plain_sizes, plain_reads, plain_loans, plain_faults, SameDevices, HoldsPart};
+    ghost use Rattle.era_disks.specs.PlainBay.{plain_sizes, plain_reads, plain_loans, plain_faults, SameDevices, HoldsPart, IsFreeIn, IsLent, IsOutOf, TakesIn, CountsRefusal};
 
     /// A bay that holds no device. It takes no memory.
     pub fn new(alloc: Global) -> PlainBay
@@ -50,11 +52,13 @@ impl PlainBay {
     pub fn add(&mut self, name: &str, sectors: u64) -> Result<(), Memory>
         requires { plain_sizes self.old name.now ≡ None }
         ensures size { OnOk result (plain_sizes self.new name.now ≡ Some sectors) }
-        ensures zeros { OnOk result (HasContent (plain_reads self.new) name.now sectors (replicate (sectors * 512) 0)) }
+        ensures zeros { OnOk result
+            (HasContent (plain_reads self.new) name.now sectors (replicate (sectors * 512) 0)) }
         ensures others { (other : List ℕ) → (other ≡ name.now → ⊥)
             → get_by_text self.new.devices other ≡ get_by_text self.old.devices other }
         ensures err { OnErr result (SameDevices self.old self.new) }
-        ensures rest { (plain_loans self.new ≡ plain_loans self.old) × (plain_faults self.new ≡ plain_faults self.old) }
+        ensures rest { (plain_loans self.new ≡ plain_loans self.old)
+            × (plain_faults self.new ≡ plain_faults self.old) }
     {
         let key = String::from_str(self.alloc, name)?;
         let device = PlainDisk::new(self.alloc, name, 0, sectors)?;
@@ -66,7 +70,8 @@ impl PlainBay {
 
     /// The bytes of a device that the bay holds.
     pub fn content(&self, alloc: Global, name: &str) -> Result<Option<Bytes>, Memory>
-        ensures held { IfOk result (λ held. IfSome held (λ bytes. (sectors : ℕ) → plain_sizes self.now name.now ≡ Some sectors
+        ensures held { IfOk result (λ held. IfSome held (λ bytes.
+            (sectors : ℕ) → plain_sizes self.now name.now ≡ Some sectors
             → HasContent (plain_reads self.now) name.now sectors bytes)) }
         ensures none { IfOk result (λ held. IfNone held (plain_sizes self.now name.now ≡ None)) }
     {
@@ -89,7 +94,6 @@ impl PlainBay {
     /// One more failure.
     fn refuse<T>(&mut self) -> Result<T, BayError>
         ensures failed { IsErrOf result BayError.Failed }
-        ensures cause { HasBayCause (plain_faults self.old) (plain_faults self.new) result }
         ensures counted { self.new ≡ record self.old { faults = one_more self.old.faults } }
     {
         self.faults = self.faults.saturating_add(1);
@@ -99,12 +103,12 @@ impl PlainBay {
     /// Lends a part of a device.
     fn lend(&mut self, name: &str, first: u64, sectors: u64) -> Result<PlainDisk, Memory>
         requires { HoldsPart self.old name.now first sectors }
-        ensures place { IfOk result (λ disk. (plain_place disk ≡ record { device = name.now; first = first })
-            × (plain_sectors disk ≡ sectors) × IsUnused disk) }
-        ensures content { IfOk result (λ disk. ReadsAs (plain_reads self.old) name.now first sectors (plain_history disk).now) }
-        ensures loans { IfOk result (λ disk. plain_loans self.new ≡ plain_loans self.old ++ new_loan disk ∷ []) }
+        ensures lent { IfOk result (λ disk. IsLent self.old name.now first sectors disk) }
+        ensures loans { IfOk result (λ disk.
+            plain_loans self.new ≡ plain_loans self.old ++ new_loan disk ∷ []) }
         ensures err { OnErr result (plain_loans self.new ≡ plain_loans self.old) }
-        ensures rest { (self.new.devices ≡ self.old.devices) × (plain_faults self.new ≡ plain_faults self.old) }
+        ensures rest { (self.new.devices ≡ self.old.devices)
+            × (plain_faults self.new ≡ plain_faults self.old) }
     {
         self.loans.reserve()?;
         let device = Name::from_text(self.alloc, name)?;
@@ -119,15 +123,13 @@ impl PlainBay {
     /// Lends a part of a device, where no sector of it is lent.
     fn open_at(&mut self, name: &str, first: u64, sectors: u64) -> Result<PlainDisk, BayError>
         requires { HoldsPart self.old name.now first sectors }
-        ensures place { IfOk result (λ disk. (plain_place disk ≡ record { device = name.now; first = first })
-            × (plain_sectors disk ≡ sectors) × IsUnused disk) }
-        ensures content { IfOk result (λ disk. ReadsAs (plain_reads self.old) name.now first sectors (plain_history disk).now) }
-        ensures free { OnOk result (IsFree plain_place plain_sectors (plain_loans self.old) name.now first sectors) }
-        ensures loans { IfOk result (λ disk. plain_loans self.new ≡ plain_loans self.old ++ new_loan disk ∷ []) }
+        ensures lent { IfOk result (λ disk. IsLent self.old name.now first sectors disk) }
+        ensures free { OnOk result (IsFreeIn self.old name.now first sectors) }
+        ensures loans { IfOk result (λ disk.
+            plain_loans self.new ≡ plain_loans self.old ++ new_loan disk ∷ []) }
         ensures refused { OnErr result (plain_loans self.new ≡ plain_loans self.old)
-            × (IsErrOf result BayError.Failed ↔ (IsFree plain_place plain_sectors (plain_loans self.old) name.now first sectors → ⊥)) }
-        ensures cause { HasBayCause (plain_faults self.old) (plain_faults self.new) result
-            × (IsErrOf result BayError.Failed → plain_faults self.new ≡ one_more (plain_faults self.old)) }
+            × (IsErrOf result BayError.Failed ↔ (IsFreeIn self.old name.now first sectors → ⊥)) }
+        ensures cause { CountsRefusal self.old self.new result }
         ensures same { self.new.devices ≡ self.old.devices }
     {
         if self.loans.is_free(name, first, sectors) {
@@ -142,9 +144,11 @@ impl PlainBay {
 
     /// Ends the last loan that is out at the disk's place.
     fn end_loan(&mut self, disk: &PlainDisk)
-        requires { (index : ℕ) × IsOut plain_place plain_sectors (plain_loans self.old) (plain_place disk.now) (plain_sectors disk.now) index }
-        ensures loans { EndsLoan plain_place plain_sectors disk.now (plain_loans self.old) (plain_loans self.new) }
-        ensures rest { (self.new.devices ≡ self.old.devices) × (plain_faults self.new ≡ plain_faults self.old) }
+        requires { IsOutOf self.old disk.now }
+        ensures loans { EndsLoan plain_place plain_sectors disk.now
+            (plain_loans self.old) (plain_loans self.new) }
+        ensures rest { (self.new.devices ≡ self.old.devices)
+            × (plain_faults self.new ≡ plain_faults self.old) }
     {
         self.loans.end(disk.device(), disk.first(), disk);
     }
@@ -153,12 +157,9 @@ impl PlainBay {
     fn take_in(&mut self, disk: &PlainDisk)
         requires { (plain_place disk.now).first + plain_sectors disk.now
             ≤ plain_length (get_by_text self.old.devices (plain_place disk.now).device) }
-        ensures content { NowReadsAs (plain_reads self.new) (plain_place disk.now).device (plain_place disk.now).first
-            (plain_sectors disk.now) (plain_history disk.now).now }
-        ensures others { SameReadsBut (plain_place disk.now).device (plain_place disk.now).first
-            (plain_sectors disk.now) (plain_reads self.old) (plain_reads self.new) }
-        ensures sizes { (name : List ℕ) → plain_sizes self.new name ≡ plain_sizes self.old name }
-        ensures rest { (plain_loans self.new ≡ plain_loans self.old) × (plain_faults self.new ≡ plain_faults self.old) }
+        ensures taken { TakesIn self.old self.new disk.now }
+        ensures rest { (plain_loans self.new ≡ plain_loans self.old)
+            × (plain_faults self.new ≡ plain_faults self.old) }
     {
         match self.devices.get_mut(disk.device()) {
             Some(device) => write_part(device, disk),
@@ -169,10 +170,9 @@ impl PlainBay {
 
 impl Bay for PlainBay {
     ghost use Rattle.std.specs.Prelude.{◌≡◌, ◌↔◌, ℕ, List, ◌+◌, ◌≤◌, [], ◌∷◌, ◌++◌, Some, None, IfOk, OnOk, OnErr, IsErrOf};
-    ghost use Rattle.era_base.specs.Bay.{new_loan, ReadsAs, NowReadsAs, SameReadsBut, IsFree, IsOut, EndsLoan, HasBayCause};
-    ghost use Rattle.era_disks.specs.Calls.{one_more};
-    ghost use Rattle.era_disks.specs.PlainDisk.{plain_place, plain_sectors, plain_history, IsUnused};
-    ghost use Rattle.era_disks.specs.PlainBay.{plain_sizes, plain_reads, plain_loans, plain_faults, SameDevices, IsKeptBack};
+    ghost use Rattle.era_base.specs.Bay.{new_loan, EndsLoan};
+    ghost use Rattle.era_disks.specs.PlainDisk.{plain_place, plain_sectors, plain_history};
+    ghost use Rattle.era_disks.specs.PlainBay.{plain_sizes, plain_reads, plain_loans, plain_faults, SameDevices, IsFreeIn, IsLent, IsOutOf, TakesIn, IsKeptBack, CountsRefusal};
 
     type D = PlainDisk;
 
@@ -188,8 +188,7 @@ impl Bay for PlainBay {
         ensures told { IfOk result (λ size. plain_sizes self.new name.now ≡ Some size) }
         ensures same { SameDevices self.old self.new }
         ensures loans { plain_loans self.new ≡ plain_loans self.old }
-        ensures cause { HasBayCause (plain_faults self.old) (plain_faults self.new) result
-            × (IsErrOf result BayError.Failed → plain_faults self.new ≡ one_more (plain_faults self.old)) }
+        ensures cause { CountsRefusal self.old self.new result }
         ensures refused { IsErrOf result BayError.Failed ↔ (plain_sizes self.old name.now ≡ None) }
         ensures never { IsErrOf result BayError.Memory → ⊥ }
     {
@@ -200,17 +199,16 @@ impl Bay for PlainBay {
     }
 
     fn open_meta(&mut self, name: &str) -> Result<PlainDisk, BayError>
-        ensures lent { IfOk result (λ disk. (plain_place disk ≡ record { device = name.now; first = 0 }) × IsUnused disk) }
-        ensures whole { IfOk result (λ disk. plain_sizes self.new name.now ≡ Some (plain_sectors disk)) }
-        ensures content { IfOk result (λ disk.
-            ReadsAs (plain_reads self.old) name.now 0 (plain_sectors disk) (plain_history disk).now) }
-        ensures free { IfOk result (λ disk. IsFree plain_place plain_sectors (plain_loans self.old) name.now 0 (plain_sectors disk)) }
-        ensures loans { IfOk result (λ disk. plain_loans self.new ≡ plain_loans self.old ++ new_loan disk ∷ []) }
+        ensures lent { IfOk result (λ disk. IsLent self.old name.now 0 (plain_sectors disk) disk) }
+        ensures whole { IfOk result (λ disk.
+            plain_sizes self.new name.now ≡ Some (plain_sectors disk)) }
+        ensures free { IfOk result (λ disk. IsFreeIn self.old name.now 0 (plain_sectors disk)) }
+        ensures loans { IfOk result (λ disk.
+            plain_loans self.new ≡ plain_loans self.old ++ new_loan disk ∷ []) }
         ensures refused { OnErr result (plain_loans self.new ≡ plain_loans self.old)
             × (IsErrOf result BayError.Failed ↔ IsKeptBack self.old name.now 0 (λ size. size)) }
         ensures same { SameDevices self.old self.new }
-        ensures cause { HasBayCause (plain_faults self.old) (plain_faults self.new) result
-            × (IsErrOf result BayError.Failed → plain_faults self.new ≡ one_more (plain_faults self.old)) }
+        ensures cause { CountsRefusal self.old self.new result }
     {
         match self.size_of(name) {
             Some(sectors) => self.open_at(name, 0, sectors),
@@ -220,16 +218,14 @@ impl Bay for PlainBay {
 
     fn open_part(&mut self, name: &str, first: u64, sectors: u64) -> Result<PlainDisk, BayError>
         requires { (size : ℕ) → plain_sizes self.old name.now ≡ Some size → first + sectors ≤ size }
-        ensures lent { IfOk result (λ disk. (plain_place disk ≡ record { device = name.now; first = first })
-            × (plain_sectors disk ≡ sectors) × IsUnused disk) }
-        ensures content { IfOk result (λ disk. ReadsAs (plain_reads self.old) name.now first sectors (plain_history disk).now) }
-        ensures free { OnOk result (IsFree plain_place plain_sectors (plain_loans self.old) name.now first sectors) }
-        ensures loans { IfOk result (λ disk. plain_loans self.new ≡ plain_loans self.old ++ new_loan disk ∷ []) }
+        ensures lent { IfOk result (λ disk. IsLent self.old name.now first sectors disk) }
+        ensures free { OnOk result (IsFreeIn self.old name.now first sectors) }
+        ensures loans { IfOk result (λ disk.
+            plain_loans self.new ≡ plain_loans self.old ++ new_loan disk ∷ []) }
         ensures refused { OnErr result (plain_loans self.new ≡ plain_loans self.old)
             × (IsErrOf result BayError.Failed ↔ IsKeptBack self.old name.now first (λ _. sectors)) }
         ensures same { SameDevices self.old self.new }
-        ensures cause { HasBayCause (plain_faults self.old) (plain_faults self.new) result
-            × (IsErrOf result BayError.Failed → plain_faults self.new ≡ one_more (plain_faults self.old)) }
+        ensures cause { CountsRefusal self.old self.new result }
     {
         match self.size_of(name) {
             Some(_) => self.open_at(name, first, sectors),
@@ -238,13 +234,10 @@ impl Bay for PlainBay {
     }
 
     fn put_back(&mut self, disk: PlainDisk)
-        requires { (index : ℕ) × IsOut plain_place plain_sectors (plain_loans self.old) (plain_place disk) (plain_sectors disk) index }
-        ensures loans { EndsLoan plain_place plain_sectors disk (plain_loans self.old) (plain_loans self.new) }
-        ensures content { NowReadsAs (plain_reads self.new) (plain_place disk).device (plain_place disk).first
-            (plain_sectors disk) (plain_history disk).now }
-        ensures others { SameReadsBut (plain_place disk).device (plain_place disk).first (plain_sectors disk)
-            (plain_reads self.old) (plain_reads self.new) }
-        ensures sizes { (name : List ℕ) → plain_sizes self.new name ≡ plain_sizes self.old name }
+        requires { IsOutOf self.old disk }
+        ensures loans { EndsLoan plain_place plain_sectors disk
+            (plain_loans self.old) (plain_loans self.new) }
+        ensures taken { TakesIn self.old self.new disk }
         ensures same { plain_faults self.new ≡ plain_faults self.old }
     {
         self.end_loan(&disk);
@@ -265,10 +258,11 @@ fn copy_part(
     sectors: u64,
 ) -> Result<PlainDisk, Memory>
     requires { first + sectors ≤ plain_sectors whole.now }
-    ensures place { IfOk result (λ disk. plain_place disk ≡ record { device = name.now; first = first }) }
+    ensures place { IfOk result (λ disk.
+        plain_place disk ≡ record { device = name.now; first = first }) }
     ensures size { IfOk result (λ disk. (plain_sectors disk ≡ sectors) × IsUnused disk) }
-    ensures content { IfOk result (λ disk. plain_history disk
-        ≡ record { past = []; now = plain_state (part (first * 512) (sectors * 512) (plain_history whole.now).now.seen) }) }
+    ensures content { IfOk result (λ disk. (plain_history disk).now
+        ≡ plain_state (part (first * 512) (sectors * 512) (plain_history whole.now).now.seen)) }
 {
     let device = Name::from_text(alloc, name)?;
     let from = first as usize * 512;
@@ -282,7 +276,8 @@ fn write_part(whole: &mut PlainDisk, disk: &PlainDisk)
     requires { (plain_place disk.now).first + plain_sectors disk.now ≤ plain_sectors whole.old }
     ensures size { plain_sectors whole.new ≡ plain_sectors whole.old }
     ensures written { (plain_history whole.new).now.seen
-        ≡ splice (plain_history whole.old).now.seen ((plain_place disk.now).first * 512) (plain_history disk.now).now.seen }
+        ≡ splice (plain_history whole.old).now.seen ((plain_place disk.now).first * 512)
+        (plain_history disk.now).now.seen }
 {
     if disk.sectors() == 0 {
         return;

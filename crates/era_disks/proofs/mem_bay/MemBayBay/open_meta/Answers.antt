@@ -4,10 +4,15 @@ use Rattle.std.proofs.lemmas.Option.{same_Some}
 use Rattle.era_disks.specs.Devices.{device_size, device_of}
 use Rattle.era_disks.specs.MemBay.{IsRefusedAt, reads_of}
 use Rattle.era_disks.specs.declared.device.Device.{Device}
-use Rattle.era_disks.proofs.FirstDevice.{found-along, found-device, if_ok_then, if_ok_both}
+use Rattle.era_disks.proofs.FirstDevice.{found-along, found-device, if_ok_then}
+use Rattle.std.specs.Prelude.{Result, Ok, Err, IfOk}
 use Rattle.era_base.specs.Bay.{ReadsAs}
 use Rattle.era_disks.specs.MemDisk.{state_of}
 use Rattle.era_disks.proofs.mem_bay.MemBayBay.open_meta.Goals as goal
+
+if_ok_both : {T E : Type 0} (r : Result T E) {P Q R : T → Type 0} → IfOk r P → IfOk r Q → ((x : T) → P x → Q x → R x) → IfOk r R
+if_ok_both (Ok x) p q f = f x p q
+if_ok_both (Err e) p q f = p
 
 pub open_at-requires : goal.open_at-requires
 open_at-requires c =

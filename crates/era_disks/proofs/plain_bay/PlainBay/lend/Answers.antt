@@ -3,7 +3,7 @@ use Rattle.std.proofs.lemmas.Option.{same_Some}
 use Rattle.std.specs.BTreeMap.{get_by_text}
 use Rattle.era_base.specs.Bay.{Loan, new_loan}
 use Rattle.era_base.specs.Bytes.{part}
-use Rattle.era_base.specs.CrashModel.{History}
+use Rattle.era_base.specs.CrashModel.{State}
 use Rattle.era_base.specs.Disk.{Place}
 use Rattle.era_disks.specs.Loans.{loans_of}
 use Rattle.era_disks.specs.PlainDisk.{plain_place, plain_sectors}
@@ -32,10 +32,16 @@ invariant_of-self-2 c =
           (λ out. omega (arith, first, length, size, c.in_ok-disk.ensures.size.0, c.requires.fits)));
     }
 
-pub returns-clause-content : goal.returns-clause-content
-returns-clause-content c = λ sector below bytes told.
+pub returns-clause-lent : goal.returns-clause-lent
+returns-clause-lent c =
     let whole = c.in-Some.whole.now in
     let size = same_Some (plain_sectors whole) c.requires.size (ap plain_size c.in-Some.ensures.value ∙ c.requires.held) in
-    ap (λ (h : History). part (sector * 512) 512 h.now.seen) c.in_ok-disk.ensures.content
-    ∙ copy-told whole c.args.first c.args.sectors sector bytes (omega (arith, size, c.requires.fits)) below
-    (ap (λ (d : Option PlainDisk). plain_sector d (c.args.first + sector)) c.in-Some.ensures.value ∙ told)
+    record {
+      place = c.in_ok-disk.ensures.place;
+      size = c.in_ok-disk.ensures.size.0;
+      unused = c.in_ok-disk.ensures.size.1;
+      content = λ sector below bytes told.
+          ap (λ (state : State). part (sector * 512) 512 state.seen) c.in_ok-disk.ensures.content
+          ∙ copy-told whole c.args.first c.args.sectors sector bytes (omega (arith, size, c.requires.fits)) below
+          (ap (λ (d : Option PlainDisk). plain_sector d (c.args.first + sector)) c.in-Some.ensures.value ∙ told);
+    }
