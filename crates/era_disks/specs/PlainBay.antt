@@ -1,9 +1,9 @@
 -- What a bay of plain disks tells.
-use Rattle.std.specs.Prelude.{◌≡◌, ℕ, ◌+◌, ◌≤◌, List, Option, Some, Result, OnOk, IsErrOf}
+use Rattle.std.specs.Prelude.{◌≡◌, ℕ, ◌+◌, ◌≤◌, List, Option, Some, Result, IsErrOf}
 use Rattle.std.specs.BTreeMap.{get_by_text}
-use Rattle.era_base.specs.Bay.{Loan, IsFree, IsOut, ReadsAs, NowReadsAs, SameReadsBut}
+use Rattle.era_base.specs.Bay.{Loan, IsFree, IsOut, ReadsAs, NowReadsAs, SameReadsBut, HasBayCause}
 use Rattle.era_base.specs.declared.bay_error.BayError.{BayError}
-use Rattle.era_base.specs.declared.bay_error.BayError.TheVariants.{Failed, Memory}
+use Rattle.era_base.specs.declared.bay_error.BayError.TheVariants.{Failed}
 use Rattle.era_disks.specs.Calls.{one_more}
 use Rattle.era_disks.specs.Loans.{loans_of}
 use Rattle.era_disks.specs.PlainDisk.{plain_place, plain_sectors, plain_history, IsUnused}
@@ -68,6 +68,5 @@ IsKeptBack bay name first sectors =
 
 -- The count of a bay of plain disks is one higher where it failed, up to the greatest value of a `u64`, and stays else.
 pub record CountsRefusal {T : Type 0} (old new : PlainBay) (result : Result T BayError) : Type 0 where
-  pub failed : IsErrOf result Failed → plain_faults new ≡ one_more (plain_faults old)
-  pub memory : IsErrOf result Memory → plain_faults new ≡ plain_faults old
-  pub kept : OnOk result (plain_faults new ≡ plain_faults old)
+  pub cause : HasBayCause (plain_faults old) (plain_faults new) result
+  pub rose : IsErrOf result Failed → plain_faults new ≡ one_more (plain_faults old)

@@ -94,6 +94,7 @@ impl PlainBay {
     /// One more failure.
     fn refuse<T>(&mut self) -> Result<T, BayError>
         ensures failed { IsErrOf result BayError.Failed }
+        ensures cause { CountsRefusal self.old self.new result }
         ensures counted { self.new ≡ record self.old { faults = one_more self.old.faults } }
     {
         self.faults = self.faults.saturating_add(1);
