@@ -48,7 +48,7 @@ impl PlainBay {
         }
     }
 
-    /// Adds a device of zeros.
+    /// Adds a device of `sectors` sectors of zeros. Where memory is refused, the bay holds what it held before.
     pub fn add(&mut self, name: &str, sectors: u64) -> Result<(), Memory>
         requires { plain_sizes self.old name.now ≡ None }
         ensures size { OnOk result (plain_sizes self.new name.now ≡ Some sectors) }
@@ -68,11 +68,11 @@ impl PlainBay {
         }
     }
 
-    /// The bytes of a device that the bay holds.
+    /// The bytes of a device that the bay holds, and `None` for any other name.
     pub fn content(&self, alloc: Global, name: &str) -> Result<Option<Bytes>, Memory>
         ensures held { IfOk result (λ held. IfSome held (λ bytes.
-            (sectors : ℕ) → plain_sizes self.now name.now ≡ Some sectors
-            → HasContent (plain_reads self.now) name.now sectors bytes)) }
+            (sectors : ℕ) × (plain_sizes self.now name.now ≡ Some sectors)
+            × HasContent (plain_reads self.now) name.now sectors bytes)) }
         ensures none { IfOk result (λ held. IfNone held (plain_sizes self.now name.now ≡ None)) }
     {
         match self.devices.get(name) {
