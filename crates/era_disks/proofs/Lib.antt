@@ -1,6 +1,7 @@
 pub mod BayReads
 pub mod Entries
 pub mod FirstDevice
+pub mod PlainReads
 pub mod RowParts
 pub mod SyncedRows
 pub mod TornRows

@@ -12,6 +12,8 @@ pub mod Rows
 pub mod Tears
 pub mod PlainPast
 pub mod PlainDisk
+pub mod PlainDevices
+pub mod PlainBay
 pub mod Streams
 pub mod ImageFiles
 pub mod FileDisk

@@ -18,26 +18,62 @@ pub struct PlainDisk {
 }
 
 impl PlainDisk {
-    ghost use Rattle.std.specs.Prelude.{◌≡◌, ◌*◌, [], replicate, IfOk};
-    ghost use Rattle.era_disks.specs.PlainDisk.{plain_place, plain_sectors, plain_history};
+    ghost use Rattle.std.specs.Prelude.{◌≡◌, ◌*◌, [], length, replicate, vec_capacity, IfOk};
+    ghost use Rattle.era_disks.specs.PlainDisk.{plain_place, plain_sectors, plain_history, plain_room, IsUnused};
+    ghost use Rattle.era_disks.specs.PlainPast.{plain_state};
 
     /// A disk of zeros. No later call of it takes memory.
     pub fn new(alloc: Global, name: &str, first: u64, sectors: u64) -> Result<PlainDisk, Memory>
         ensures place { IfOk result (λ disk. plain_place disk ≡ record { device = name.now; first = first }) }
         ensures size { IfOk result (λ disk. plain_sectors disk ≡ sectors) }
         ensures zeros { IfOk result (λ disk. (plain_history disk).now.seen ≡ replicate (sectors * 512) 0) }
-        ensures past { IfOk result (λ disk. (plain_history disk).past ≡ []) }
+        ensures fresh { IfOk result IsUnused }
     {
         let Some(size) = sectors.checked_mul(512) else {
             return Err(Memory);
         };
-        Ok(PlainDisk {
-            device: Name::from_text(alloc, name)?,
+        let device = Name::from_text(alloc, name)?;
+        let bytes = vec![in alloc; 0; size as usize]?;
+        Ok(PlainDisk::of(device, first, sectors, bytes))
+    }
+
+    /// A disk of these bytes at a place. It takes no memory.
+    pub fn of(device: Name, first: u64, sectors: u64, bytes: Vec<u8>) -> PlainDisk
+        requires { length bytes.items ≡ sectors * 512 }
+        ensures place { plain_place result ≡ record { device = device; first = first } }
+        ensures size { plain_sectors result ≡ sectors }
+        ensures content { plain_history result ≡ record { past = []; now = plain_state bytes.items } }
+        ensures fresh { IsUnused result }
+        ensures room { plain_room result ≡ vec_capacity bytes }
+    {
+        PlainDisk {
+            device,
             first,
             sectors,
-            bytes: vec![in alloc; 0; size as usize]?,
+            bytes,
             past: PlainPast::Start,
-        })
+        }
+    }
+
+    /// The name of the device that the disk is a part of.
+    pub fn device(&self) -> &str
+        ensures { result.now ≡ (plain_place self.now).device }
+    {
+        self.device.as_str()
+    }
+
+    /// The first sector of the device that is the disk's.
+    pub fn first(&self) -> u64
+        ensures { result ≡ (plain_place self.now).first }
+    {
+        self.first
+    }
+
+    /// All bytes of the disk.
+    pub fn bytes(&self) -> &[u8]
+        ensures { result.now ≡ (plain_history self.now).now.seen }
+    {
+        self.bytes.as_slice()
     }
 }
 
@@ -46,7 +82,7 @@ impl Disk for PlainDisk {
     ghost use Rattle.era_base.specs.CrashModel.{LiesOn, IsClean};
     ghost use Rattle.era_base.specs.Disk.{Reads, Writes, Syncs};
     ghost use Rattle.era_base.specs.Faults.{HasCause};
-    ghost use Rattle.era_disks.specs.PlainDisk.{plain_place, plain_sectors, plain_history};
+    ghost use Rattle.era_disks.specs.PlainDisk.{plain_place, plain_sectors, plain_history, plain_room};
     ghost use Rattle.era_disks.specs.PlainPast.{plain-whole};
 
     ghost tells = { true };
@@ -69,7 +105,7 @@ impl Disk for PlainDisk {
         ensures size { plain_sectors self.new ≡ plain_sectors self.old }
         ensures place { plain_place self.new ≡ plain_place self.old }
         ensures cause { HasCause 0 0 result }
-        ensures never { IsOk result }
+        ensures never { IsOk result × (plain_room self.new ≡ plain_room self.old) }
     {
         self.past.pass(&self.bytes);
         let from = first as usize * 512;
@@ -83,7 +119,7 @@ impl Disk for PlainDisk {
         ensures size { plain_sectors self.new ≡ plain_sectors self.old }
         ensures place { plain_place self.new ≡ plain_place self.old }
         ensures cause { HasCause 0 0 result }
-        ensures never { IsOk result }
+        ensures never { IsOk result × (plain_room self.new ≡ plain_room self.old) }
         ensures clean { IsClean (plain_history self.new).now }
     {
         self.past.pass(&self.bytes);
@@ -97,7 +133,7 @@ impl Disk for PlainDisk {
         ensures size { plain_sectors self.new ≡ plain_sectors self.old }
         ensures place { plain_place self.new ≡ plain_place self.old }
         ensures cause { HasCause 0 0 result }
-        ensures never { IsOk result }
+        ensures never { IsOk result × (plain_room self.new ≡ plain_room self.old) }
     {
         self.past.pass(&self.bytes);
         Ok(())

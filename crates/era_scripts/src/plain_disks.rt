@@ -1,7 +1,7 @@
-//! A disk that never fails, and a sink with room.
+//! A disk that never fails, a bay of such disks, and a sink with room.
 
-use era_base::{Disk, Sink};
-use era_disks::{PlainDisk, TextSink};
+use era_base::{Bay, BayError, Disk, Sink};
+use era_disks::{PlainBay, PlainDisk, TextSink};
 use std::test::Fail;
 
 #[test]
@@ -20,6 +20,53 @@ fn a_plain_disk_reads_what_was_written(rt: HostRuntime) -> Result<(), Fail> {
     }
     assert!(rt; into[0] == 0 && into[511] == 0 && into[512] == 7);
     assert!(rt; disk.faults() == 0);
+    Ok(())
+}
+
+#[test]
+fn a_plain_bay_lends_a_part_and_takes_it_back(rt: HostRuntime) -> Result<(), Fail> {
+    let mut bay = PlainBay::new(rt.alloc());
+    bay.add("origin", 4)?;
+    bay.add("meta", 1)?;
+    let mut disk = bay.open_part("origin", 1, 2)?;
+    disk.write(1, [9; 512].as_slice())?;
+    disk.sync()?;
+    bay.put_back(disk);
+    let mut after = [0; 2_048];
+    after[1_024..1_536].fill(9);
+    let content = bay.content(rt.alloc(), "origin")?;
+    let same = match &content {
+        Some(bytes) => bytes.as_slice() == after.as_slice(),
+        None => false,
+    };
+    assert!(rt; same && bay.faults() == 0);
+    let mut whole = bay.open_meta("origin")?;
+    let mut into = [1; 512];
+    if whole.sectors() == 4 {
+        whole.read(2, &mut into)?;
+    }
+    assert!(rt; into[0] == 9 && into[511] == 9);
+    bay.put_back(whole);
+    Ok(())
+}
+
+#[test]
+fn what_a_plain_bay_lacks_or_has_lent_is_a_fault(rt: HostRuntime) -> Result<(), Fail> {
+    let mut bay = PlainBay::new(rt.alloc());
+    bay.add("origin", 4)?;
+    let disk = bay.open_part("origin", 1, 2)?;
+    assert!(rt; bay.size("meta") == Err(BayError::Failed) && bay.faults() == 1);
+    let second = match bay.open_part("origin", 2, 2) {
+        Err(BayError::Failed) => true,
+        _ => false,
+    };
+    assert!(rt; second && bay.faults() == 2);
+    let part = bay.open_part("origin", 3, 1)?;
+    bay.put_back(part);
+    bay.put_back(disk);
+    assert!(rt; bay.faults() == 2);
+    let whole = bay.open_meta("origin")?;
+    bay.put_back(whole);
     Ok(())
 }
 
