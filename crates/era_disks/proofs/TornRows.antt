@@ -1,5 +1,5 @@
 -- What a crash leaves of rows is an image of their state.
-use Rattle.std.proofs.Common.{◌≡◌, ℕ, suc, ◌-◌, ◌/◌, ◌<◌, ◌≤◌, Bool, true, false, List, [], ◌∷◌, length, replicate, slice_index_or, arith, refl, sym, ◌∙◌, ap, subst, inl, inr, length-append}
+use Rattle.std.proofs.Common.{◌≡◌, ℕ, suc, ◌-◌, ◌/◌, ◌<◌, ◌≤◌, Bool, true, false, List, [], ◌∷◌, ◌++◌, length, replicate, slice_index_or, arith, refl, sym, ◌∙◌, ap, subst, inl, inr, length-append}
 use Rattle.std.specs.Prelude.{Option, slice_index}
 use Rattle.std.proofs.lemmas.Bool.{cases_lt}
 use Rattle.std.proofs.lemmas.List.{get_or_append_left, get_or-append_right, get_or-replicate, length-replicate}
@@ -19,6 +19,44 @@ keeps-length [] rows after same = ap length same
 keeps-length (flag ∷ flags) [] after same = ap length same
 keeps-length (flag ∷ flags) (row ∷ rows) [] same = absurd same
 keeps-length (flag ∷ flags) (row ∷ rows) (now ∷ after) same = ap suc (keeps-length flags rows after same.1)
+
+-- rows in two parts
+pub torn-append : (tear : Tear) (flags flags' : List Bool) (kept kept' : List (Option (List ℕ))) (rows rows' : List (List ℕ))
+    → length kept ≡ length flags → length rows ≡ length flags
+    → torn_rows tear (flags ++ flags') (kept ++ kept') (rows ++ rows') ≡ torn_rows tear flags kept rows ++ torn_rows tear flags' kept' rows'
+torn-append tear [] flags' [] kept' [] rows' k r = refl
+torn-append tear [] flags' (old ∷ kept) kept' rows rows' k r = absurd (omega (arith, k))
+torn-append tear [] flags' [] kept' (row ∷ rows) rows' k r = absurd (omega (arith, r))
+torn-append tear (flag ∷ flags) flags' [] kept' rows rows' k r = absurd (omega (arith, k))
+torn-append tear (flag ∷ flags) flags' (old ∷ kept) kept' [] rows' k r = absurd (omega (arith, r))
+torn-append tear (flag ∷ flags) flags' (old ∷ kept) kept' (row ∷ rows) rows' k r =
+    ap (λ rest. torn_row tear flag old row ∷ rest) (torn-append tear flags flags' kept kept' rows rows' (omega (arith, k)) (omega (arith, r)))
+
+pub keeps-append : (flags flags' : List Bool) (rows rows' after after' : List (List ℕ)) → length rows ≡ length flags
+    → KeepsClean flags rows after → KeepsClean flags' rows' after' → KeepsClean (flags ++ flags') (rows ++ rows') (after ++ after')
+keeps-append [] flags' [] rows' after after' r one two = rw one two
+keeps-append [] flags' (row ∷ rows) rows' after after' r one two = absurd (omega (arith, r))
+keeps-append (flag ∷ flags) flags' [] rows' after after' r one two = absurd (omega (arith, r))
+keeps-append (flag ∷ flags) flags' (row ∷ rows) rows' [] after' r one two = absurd one
+keeps-append (flag ∷ flags) flags' (row ∷ rows) rows' (now ∷ after) after' r one two =
+    (one.0, keeps-append flags flags' rows rows' after after' (omega (arith, r)) one.1 two)
+
+pub torn-halves : (tear : Tear) (flags front back : List Bool) (kept old later : List (Option (List ℕ))) (rows first second first' second' : List (List ℕ))
+    → flags ≡ front ++ back → kept ≡ old ++ later → rows ≡ first ++ second → length old ≡ length front → length first ≡ length front
+    → first' ≡ torn_rows tear front old first → second' ≡ torn_rows tear back later second
+    → first' ++ second' ≡ torn_rows tear flags kept rows
+torn-halves tear flags front back kept old later rows first second first' second' f k r ko ro one two =
+    ap (λ xs. xs ++ second') one ∙ ap (λ xs. torn_rows tear front old first ++ xs) two
+    ∙ sym (torn-append tear front back old later first second ko ro)
+    ∙ sym (ap (λ xs. torn_rows tear xs kept rows) f ∙ ap (λ xs. torn_rows tear (front ++ back) xs rows) k
+    ∙ ap (torn_rows tear (front ++ back) (old ++ later)) r)
+
+pub keeps-halves : (flags front back : List Bool) (rows first second first' second' : List (List ℕ))
+    → flags ≡ front ++ back → rows ≡ first ++ second → length first ≡ length front
+    → KeepsClean front first first' → KeepsClean back second second' → KeepsClean flags rows (first' ++ second')
+keeps-halves flags front back rows first second first' second' f r ro one two =
+    subst (λ xs. KeepsClean xs rows (first' ++ second')) (sym f)
+    (subst (λ xs. KeepsClean (front ++ back) xs (first' ++ second')) (sym r) (keeps-append front back first second first' second' ro one two))
 
 -- a byte of the first sector, and of a later one
 first-byte : (row : List ℕ) (rows : List (List ℕ)) (offset : ℕ) → offset < 512

@@ -1,5 +1,5 @@
 -- What sectors were at the last sync, and what a crash leaves of pending ones.
-use Rattle.std.specs.Prelude.{◌≡◌, ℕ, ◌<◌, Bool, true, false, List, [], ◌∷◌, length, replicate, slice_index, Option, Some, None}
+use Rattle.std.specs.Prelude.{⊤, ◌≡◌, ℕ, ◌<◌, Bool, true, false, List, [], ◌∷◌, length, replicate, slice_index, Option, Some, None}
 use Rattle.era_base.specs.CrashModel.{State, is_pending}
 use Rattle.era_disks.specs.declared.tear.Tear.{Tear}
 use Rattle.era_disks.specs.declared.tear.Tear.TheVariants.{Keep, Old, Fill}
@@ -41,3 +41,9 @@ KeepsClean (flag ∷ flags) (row ∷ rows) (now ∷ after) = (flag ≡ false →
 -- In an image all bytes of pending sectors are this byte.
 abbrev pub IsFilled : ℕ → State → List ℕ → Type 0
 IsFilled byte state image = (offset : ℕ) → offset < length state.seen → is_pending state offset ≡ true → slice_index image offset ≡ byte
+
+-- A tear for which memory may be refused: only the one that fills pending sectors.
+abbrev pub TakesMemory : Tear → Type 0
+TakesMemory Keep = ⊥
+TakesMemory Old = ⊥
+TakesMemory (Fill byte) = ⊤

@@ -35,7 +35,7 @@ pub struct MemDisk {
 impl MemDisk {
     ghost use Rattle.std.specs.Prelude.{◌≡◌, ℕ, [], Some, None, true, IfOk, OnOk, OnErr};
     ghost use Rattle.era_base.specs.CrashModel.{IsClean, IsCrashImage};
-    ghost use Rattle.era_disks.specs.Tears.{IsFilled};
+    ghost use Rattle.era_disks.specs.Tears.{IsFilled, TakesMemory};
     ghost use Rattle.era_disks.specs.DiskCalls.{no_disk_calls, also_failing_call};
     ghost use Rattle.era_disks.specs.Fuses.{IsUnburnt};
     ghost use Rattle.era_disks.specs.MemDisk.{place_of, sectors_of, history_of, synced_in, past_of, faults_of, starved_of, blank_state, HasNewRecord};
@@ -115,6 +115,7 @@ impl MemDisk {
         ensures old { tear ≡ Tear.Old → OnOk result ((history_of self.new).now.seen ≡ synced_in self.old) }
         ensures fill { (byte : ℕ) → tear ≡ Tear.Fill byte
             → OnOk result (IsFilled byte (history_of self.old).now (history_of self.new).now.seen) }
+        ensures full { OnErr result (TakesMemory tear) }
         ensures anew { ((history_of self.new).past ≡ []) × HasNewRecord self.new × (self.new.fuse ≡ None) }
         ensures same { (place_of self.new ≡ place_of self.old) × (sectors_of self.new ≡ sectors_of self.old) }
         ensures rest { (faults_of self.new ≡ faults_of self.old) × (starved_of self.new ≡ starved_of self.old)

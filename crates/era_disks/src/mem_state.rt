@@ -19,10 +19,10 @@ pub struct MemState {
 }
 
 impl MemState {
-    ghost use Rattle.std.specs.Prelude.{ℕ, ◌+◌, ◌*◌, ◌/◌, ◌≤◌, true, take, drop, replicate, IfOk, OnOk};
+    ghost use Rattle.std.specs.Prelude.{ℕ, ◌+◌, ◌*◌, ◌/◌, ◌≤◌, true, take, drop, replicate, IfOk, OnOk, OnErr};
     ghost use Rattle.era_base.specs.Bytes.{part, splice};
     ghost use Rattle.era_base.specs.CrashModel.{LiesOn, SameBut, Synced, IsClean, IsCrashImage};
-    ghost use Rattle.era_disks.specs.Tears.{IsFilled};
+    ghost use Rattle.era_disks.specs.Tears.{IsFilled, TakesMemory};
     ghost use Rattle.era_disks.specs.MemDisk.{state_of, synced_of, blank_state, IsMarked, OnlyMarks};
 
     /// Sectors that are zero, of which none is pending.
@@ -101,6 +101,7 @@ impl MemState {
         ensures old { tear ≡ Tear.Old → OnOk result ((state_of self.new).seen ≡ synced_of self.old) }
         ensures fill { (byte : ℕ) → tear ≡ Tear.Fill byte
             → OnOk result (IsFilled byte (state_of self.old) (state_of self.new).seen) }
+        ensures full { OnErr result (TakesMemory tear) }
     {
         tear_rows(
             alloc,
