@@ -4,9 +4,9 @@ ghost use Rattle.std.specs.Prelude.{◌≡◌};
 ghost use Rattle.era_disks.specs.MemDisk.{history_of, sectors_of};
 ghost use Rattle.era_slots.specs.Opening.{SlotsStand};
 
-use crate::slot_disks::{blank, blank_slots, cut_at, slots_stored_twice, stored_twice};
+use crate::slot_disks::{Stop, blank, blank_slots, cut_at, slots_stored_twice, stored_twice};
 use era_base::Disk;
-use era_disks::{DiskCall, MemDisk};
+use era_disks::{MemDisk, Tear};
 use era_slots::Slots;
 use std::test::Fail;
 
@@ -129,7 +129,8 @@ fn calls_of_a_wiping_are_counted(rt: HostRuntime) -> Result<(), Fail> {
         calls_of_wiping(blank(rt.alloc())?) == Some([2, 0, 1]),
         "no gate is open"
     );
-    let one = cut_at(rt.alloc(), DiskCall::Write, 2)?;
+    let mut one = cut_at(rt.alloc(), Stop::Write(9, 0))?;
+    one.crash(Tear::Keep)?;
     assert!(rt; calls_of_wiping(one) == Some([2, 1, 2]), "slot 0 is open");
     let mut both = None;
     if let Some(disk) = stored_twice(rt.alloc())? {

@@ -1,10 +1,10 @@
 //! Commits on the slots of a disk in memory, and what is found after a crash at each write and each sync of three.
 
 use crate::slot_disks::{
-    FIRST, SECOND, SECOND_ALONE, Seen, THIRD, blank, cut_at, opening_of, stored_twice,
+    FIRST, SECOND, SECOND_ALONE, Seen, Stop, THIRD, blank, cut_at, opening_of, stored_twice,
 };
 use era_base::{Disk, Memory};
-use era_disks::{DiskCall, Tear};
+use era_disks::Tear;
 use era_slots::SlotError;
 use std::alloc::Global;
 use std::test::Fail;
@@ -41,31 +41,47 @@ fn an_open_slot_of_number_0_is_refused(rt: HostRuntime) -> Result<(), Fail> {
     Ok(())
 }
 
-/// What an opening gives after a crash with this tear, where this call failed.
-fn left_by(alloc: Global, call: DiskCall, number: u64, tear: Tear) -> Result<Seen, Memory> {
-    let mut disk = cut_at(alloc, call, number)?;
+/// The writes of three commits, in their order: number and body, then the gate; and before the third body its gate.
+const FIRST_BODY: Stop = Stop::Write(1, 0);
+const FIRST_GATE: Stop = Stop::Write(0, 0);
+const SECOND_BODY: Stop = Stop::Write(9, 0);
+const SECOND_GATE: Stop = Stop::Write(8, 0);
+const CLOSING: Stop = Stop::Write(0, 1);
+const THIRD_BODY: Stop = Stop::Write(1, 1);
+const THIRD_GATE: Stop = Stop::Write(0, 2);
+
+/// What an opening gives after a crash with this tear, where the commits were stopped.
+fn left_by(alloc: Global, stop: Stop, tear: Tear) -> Result<Seen, Memory> {
+    let mut disk = cut_at(alloc, stop)?;
     disk.crash(tear)?;
     Ok(opening_of(alloc, disk))
 }
 
 #[test]
 fn a_crash_at_a_write_leaves_the_old_body_or_the_new(rt: HostRuntime) -> Result<(), Fail> {
-    let left = |number, tear| left_by(rt.alloc(), DiskCall::Write, number, tear);
-    assert!(rt; left(0, Tear::Keep)? == Seen::Blank && left(0, Tear::Old)? == Seen::Blank);
-    assert!(rt; left(0, Tear::Fill(1))? == Seen::Blank);
-    assert!(rt; left(1, Tear::Keep)? == Seen::Blank && left(1, Tear::Old)? == Seen::Blank);
-    assert!(rt; left(1, Tear::Fill(1))? == FIRST && left(1, Tear::Fill(9))? == Seen::Blank);
-    assert!(rt; left(2, Tear::Keep)? == FIRST && left(2, Tear::Old)? == FIRST);
-    assert!(rt; left(2, Tear::Fill(1))? == FIRST);
-    assert!(rt; left(3, Tear::Keep)? == FIRST && left(3, Tear::Old)? == FIRST);
-    assert!(rt; left(3, Tear::Fill(1))? == SECOND && left(3, Tear::Fill(9))? == FIRST);
+    let left = |stop, tear| left_by(rt.alloc(), stop, tear);
+    assert!(rt; left(FIRST_BODY, Tear::Keep)? == Seen::Blank);
+    assert!(rt; left(FIRST_BODY, Tear::Old)? == Seen::Blank);
+    assert!(rt; left(FIRST_BODY, Tear::Fill(1))? == Seen::Blank);
+    assert!(rt; left(FIRST_GATE, Tear::Keep)? == Seen::Blank);
+    assert!(rt; left(FIRST_GATE, Tear::Old)? == Seen::Blank);
+    assert!(rt; left(FIRST_GATE, Tear::Fill(1))? == FIRST);
+    assert!(rt; left(FIRST_GATE, Tear::Fill(9))? == Seen::Blank);
+    assert!(rt; left(SECOND_BODY, Tear::Keep)? == FIRST);
+    assert!(rt; left(SECOND_BODY, Tear::Old)? == FIRST);
+    assert!(rt; left(SECOND_BODY, Tear::Fill(1))? == FIRST);
+    assert!(rt; left(SECOND_GATE, Tear::Keep)? == FIRST);
+    assert!(rt; left(SECOND_GATE, Tear::Old)? == FIRST);
+    assert!(rt; left(SECOND_GATE, Tear::Fill(1))? == SECOND);
+    assert!(rt; left(SECOND_GATE, Tear::Fill(9))? == FIRST);
     Ok(())
 }
 
 #[test]
 fn a_crash_at_a_sync_leaves_the_old_body_or_the_new(rt: HostRuntime) -> Result<(), Fail> {
-    let left = |number, tear| left_by(rt.alloc(), DiskCall::Sync, number, tear);
-    assert!(rt; left(0, Tear::Keep)? == Seen::Blank && left(0, Tear::Fill(1))? == Seen::Blank);
+    let left = |number, tear| left_by(rt.alloc(), Stop::Sync(number), tear);
+    assert!(rt; left(0, Tear::Keep)? == Seen::Blank && left(0, Tear::Old)? == Seen::Blank);
+    assert!(rt; left(0, Tear::Fill(1))? == Seen::Blank);
     assert!(rt; left(1, Tear::Keep)? == Seen::Blank && left(1, Tear::Old)? == Seen::Blank);
     assert!(rt; left(1, Tear::Fill(1))? == Seen::Blank);
     assert!(rt; left(2, Tear::Keep)? == FIRST && left(2, Tear::Old)? == Seen::Blank);
@@ -79,18 +95,18 @@ fn a_crash_at_a_sync_leaves_the_old_body_or_the_new(rt: HostRuntime) -> Result<(
 
 #[test]
 fn a_crash_over_an_older_body_leaves_the_old_body_or_the_new(rt: HostRuntime) -> Result<(), Fail> {
-    let left = |call, number, tear| left_by(rt.alloc(), call, number, tear);
-    assert!(rt; left(DiskCall::Write, 4, Tear::Keep)? == SECOND);
-    assert!(rt; left(DiskCall::Write, 4, Tear::Fill(1))? == SECOND);
-    assert!(rt; left(DiskCall::Write, 4, Tear::Fill(9))? == SECOND_ALONE);
-    assert!(rt; left(DiskCall::Sync, 5, Tear::Keep)? == SECOND_ALONE);
-    assert!(rt; left(DiskCall::Sync, 5, Tear::Old)? == SECOND);
-    assert!(rt; left(DiskCall::Write, 5, Tear::Fill(1))? == SECOND_ALONE);
-    assert!(rt; left(DiskCall::Sync, 6, Tear::Keep)? == SECOND_ALONE);
-    assert!(rt; left(DiskCall::Sync, 6, Tear::Fill(1))? == SECOND_ALONE);
-    assert!(rt; left(DiskCall::Write, 6, Tear::Keep)? == SECOND_ALONE);
-    assert!(rt; left(DiskCall::Write, 6, Tear::Fill(1))? == THIRD);
-    assert!(rt; left(DiskCall::Sync, 7, Tear::Keep)? == THIRD);
-    assert!(rt; left(DiskCall::Sync, 7, Tear::Old)? == SECOND_ALONE);
+    let left = |stop, tear| left_by(rt.alloc(), stop, tear);
+    assert!(rt; left(CLOSING, Tear::Keep)? == SECOND);
+    assert!(rt; left(CLOSING, Tear::Fill(1))? == SECOND);
+    assert!(rt; left(CLOSING, Tear::Fill(9))? == SECOND_ALONE);
+    assert!(rt; left(Stop::Sync(5), Tear::Keep)? == SECOND_ALONE);
+    assert!(rt; left(Stop::Sync(5), Tear::Old)? == SECOND);
+    assert!(rt; left(THIRD_BODY, Tear::Fill(1))? == SECOND_ALONE);
+    assert!(rt; left(Stop::Sync(6), Tear::Keep)? == SECOND_ALONE);
+    assert!(rt; left(Stop::Sync(6), Tear::Fill(1))? == SECOND_ALONE);
+    assert!(rt; left(THIRD_GATE, Tear::Keep)? == SECOND_ALONE);
+    assert!(rt; left(THIRD_GATE, Tear::Fill(1))? == THIRD);
+    assert!(rt; left(Stop::Sync(7), Tear::Keep)? == THIRD);
+    assert!(rt; left(Stop::Sync(7), Tear::Old)? == SECOND_ALONE);
     Ok(())
 }

@@ -4,8 +4,8 @@ ghost use Rattle.std.specs.Prelude.{◌≡◌, ◌+◌, ◌^◌, ◌<◌, ◌≤
 ghost use Rattle.era_disks.specs.MemDisk.{history_of, sectors_of};
 ghost use Rattle.era_slots.specs.Opening.{SlotsStand};
 
-use era_base::{Bytes, Memory};
-use era_disks::{DiskCall, MemDisk};
+use era_base::{Bytes, Memory, Name};
+use era_disks::{DiskCall, Fuse, MemDisk};
 use era_slots::{Opened, SlotError, Slots};
 use std::alloc::Global;
 
@@ -169,12 +169,18 @@ fn store_three(slots: &mut Slots<MemDisk>) -> Result<(), u64>
     store(slots, 3)
 }
 
-/// A blank disk after an opening and three commits, of which this call fails. Nothing is called after the failure.
-pub fn cut_at(alloc: Global, call: DiskCall, number: u64) -> Result<MemDisk, Memory>
+/// What stops three commits: a fuse at the write from this sector that has this number, or the sync of this number.
+#[derive(Clone, Copy, Debug, PartialEq, Eq)]
+pub enum Stop {
+    Write(u64, u32),
+    Sync(u64),
+}
+
+/// A blank disk after an opening and three commits, up to what stops them. Nothing is called after the failure.
+pub fn cut_at(alloc: Global, stop: Stop) -> Result<MemDisk, Memory>
     ensures { IfOk result (λ disk. sectors_of disk ≡ 456) }
 {
-    let mut disk = blank(alloc)?;
-    disk.fail(call, number)?;
+    let disk = stopping(alloc, stop)?;
     match Slots::open(alloc, disk) {
         Ok(Opened::Blank(mut slots)) => {
             match store_three(&mut slots) {
@@ -186,4 +192,23 @@ pub fn cut_at(alloc: Global, call: DiskCall, number: u64) -> Result<MemDisk, Mem
         Ok(Opened::Whole { slots, .. }) => Ok(slots.into_disk()),
         Err(refusal) => Ok(refusal.disk),
     }
+}
+
+/// A blank disk that is to stop.
+fn stopping(alloc: Global, stop: Stop) -> Result<MemDisk, Memory>
+    ensures { IfOk result (λ disk. sectors_of disk ≡ 456) }
+{
+    let mut disk = blank(alloc)?;
+    match stop {
+        Stop::Write(sector, number) => {
+            let device = Name::from_text(alloc, "meta")?;
+            disk.set_fuse(Fuse {
+                device,
+                sector,
+                number,
+            })?;
+        }
+        Stop::Sync(number) => disk.fail(DiskCall::Sync, number)?,
+    }
+    Ok(disk)
 }

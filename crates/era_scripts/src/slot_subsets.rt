@@ -2,9 +2,9 @@
 
 ghost use Rattle.std.specs.Prelude.{◌+◌, ◌≤◌};
 
-use crate::slot_disks::{FIRST, SECOND, SECOND_ALONE, Seen, THIRD, blank, cut_at, opening_of};
+use crate::slot_disks::{FIRST, SECOND, SECOND_ALONE, Seen, Stop, THIRD, blank, cut_at, opening_of};
 use era_base::Disk;
-use era_disks::{DiskCall, Tear};
+use era_disks::Tear;
 use std::alloc::Global;
 use std::test::Fail;
 
@@ -21,7 +21,7 @@ struct Cut {
 
 /// Both slots of a disk that crashed with this tear after this sync failed.
 fn slots_left(alloc: Global, sync: u64, tear: Tear) -> Result<[u8; 8_192], Fail> {
-    let mut disk = cut_at(alloc, DiskCall::Sync, sync)?;
+    let mut disk = cut_at(alloc, Stop::Sync(sync))?;
     disk.crash(tear)?;
     let mut bytes = [0; 8_192];
     disk.read(0, &mut bytes)?;
