@@ -1,7 +1,7 @@
 //! A bay in memory whose disks never fail. A lent disk has a copy of its sectors, and `put_back` writes them into the
 //! device.
 
-ghost use Rattle.std.specs.Prelude.{◌≡◌, ◌+◌, ◌*◌, ◌≤◌, [], IfOk};
+ghost use Rattle.std.specs.Prelude.{◌≡◌, ◌+◌, ◌*◌, ◌≤◌, IfOk};
 ghost use Rattle.era_base.specs.Bytes.{part, splice};
 ghost use Rattle.era_disks.specs.Loans.{loans_of};
 ghost use Rattle.era_disks.specs.PlainDisk.{plain_place, plain_sectors, plain_history, IsUnused};
@@ -30,7 +30,7 @@ impl PlainBay {
     ghost use Rattle.std.specs.BTreeMap.{get_by_text};
     ghost use Rattle.era_base.specs.Bay.{new_loan, HasContent, EndsLoan};
     ghost use Rattle.era_disks.specs.Calls.{one_more};
-    ghost use Rattle.era_disks.specs.PlainDisk.{plain_place, plain_sectors, plain_history};
+    ghost use Rattle.era_disks.specs.PlainDisk.{plain_place, plain_sectors};
     ghost use Rattle.era_disks.specs.PlainDevices.{plain_length};
     ghost use Rattle.era_disks.specs.PlainBay.{plain_sizes, plain_reads, plain_loans, plain_faults, SameDevices, HoldsPart, IsFreeIn, IsLent, IsOutOf, TakesIn, CountsRefusal};
 
@@ -170,9 +170,9 @@ impl PlainBay {
 }
 
 impl Bay for PlainBay {
-    ghost use Rattle.std.specs.Prelude.{◌≡◌, ◌↔◌, ℕ, List, ◌+◌, ◌≤◌, [], ◌∷◌, ◌++◌, Some, None, IfOk, OnOk, OnErr, IsErrOf};
+    ghost use Rattle.std.specs.Prelude.{◌≡◌, ◌↔◌, ℕ, ◌+◌, ◌≤◌, [], ◌∷◌, ◌++◌, Some, None, IfOk, OnOk, OnErr, IsErrOf};
     ghost use Rattle.era_base.specs.Bay.{new_loan, EndsLoan};
-    ghost use Rattle.era_disks.specs.PlainDisk.{plain_place, plain_sectors, plain_history};
+    ghost use Rattle.era_disks.specs.PlainDisk.{plain_place, plain_sectors};
     ghost use Rattle.era_disks.specs.PlainBay.{plain_sizes, plain_reads, plain_loans, plain_faults, SameDevices, IsFreeIn, IsLent, IsOutOf, TakesIn, IsKeptBack, CountsRefusal};
 
     type D = PlainDisk;
