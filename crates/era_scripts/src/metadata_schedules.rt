@@ -2,7 +2,8 @@
 
 use crate::moves::Move;
 use crate::moves::Move::{
-    Digest, Dropped, Enter, Kept, Leave, List, ListSnap, Mark, Refused, Roll, Snap, Status, Tried,
+    Cut, Digest, Dropped, Enter, Kept, Leave, List, ListSnap, Mark, Refused, Roll, Snap, Status,
+    Tried,
 };
 use crate::tables::{BROKEN, MARKED, OPEN, Row, WRITTEN, first_unmet};
 use era_model::{Kind, Why};
@@ -58,7 +59,7 @@ fn snapshots_and_digests_follow_their_rules(rt: HostRuntime) -> Result<(), Fail>
             1,
         ),
         (
-            "dropped once",
+            "a set is dropped once",
             &[Roll(0, 2), Digest(1, 1, None)],
             &[Digest(2, 1, None)],
             2,
@@ -165,7 +166,7 @@ fn a_fault_has_its_cause_and_a_count_that_rose(rt: HostRuntime) -> Result<(), Fa
         stripe: 0,
         count: 5,
     };
-    let rows: [Row; 9] = [
+    let rows: [Row; 10] = [
         (
             "a write that tried",
             &[],
@@ -212,6 +213,12 @@ fn a_fault_has_its_cause_and_a_count_that_rose(rt: HostRuntime) -> Result<(), Fa
             "the part's count rises",
             &BROKEN,
             &[Refused(1, Kind::Read, broken)],
+            5,
+        ),
+        (
+            "it rises for a cut write",
+            &OPEN,
+            &[Refused(1, Kind::Read, broken), Cut(0, 5)],
             5,
         ),
         (

@@ -14,7 +14,8 @@ use std::test::Fail;
 /// Marks of no block, in era 1.
 fn no_marks(alloc: Global, geometry: Geometry) -> Marks
     ensures valid { AreValidMarks result }
-    ensures geometry { (result.sectors ≡ geometry.sectors) × (result.block_sectors ≡ geometry.block_sectors) }
+    ensures geometry { (result.sectors ≡ geometry.sectors)
+        × (result.block_sectors ≡ geometry.block_sectors) }
     ensures era { result.era ≡ 1 }
 {
     Marks {
