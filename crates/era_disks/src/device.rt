@@ -35,11 +35,14 @@ impl Device {
         fuse: Option<FuseEnd>,
     ) -> Result<MemDisk, Memory>
         requires { first + sectors ≤ length self.now.state.rows.items }
-        ensures place { IfOk result (λ disk. place_of disk ≡ record { device = self.now.name; first = first }) }
-        ensures rows { IfOk result (λ disk. disk.state.rows.items ≡ take sectors (drop first self.now.state.rows.items)) }
+        ensures place { IfOk result (λ disk. place_of disk
+            ≡ record { device = self.now.name; first = first }) }
+        ensures rows { IfOk result (λ disk. disk.state.rows.items
+            ≡ take sectors (drop first self.now.state.rows.items)) }
         ensures size { IfOk result (λ disk. sectors_of disk ≡ sectors) }
         ensures calls { IfOk result (λ disk. disk.calls ≡ restarted_calls self.now.calls) }
-        ensures fresh { IfOk result (λ disk. (faults_of disk ≡ 0) × (starved_of disk ≡ 0) × HasNewRecord disk) }
+        ensures fresh { IfOk result (λ disk. (faults_of disk ≡ 0) × (starved_of disk ≡ 0)
+            × HasNewRecord disk) }
         ensures fuse { IfOk result (λ disk. disk.fuse ≡ fuse) }
     {
         let from = first as usize;

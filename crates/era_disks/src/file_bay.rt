@@ -67,11 +67,13 @@ impl<R: Files<File = File> + Drop> FileBay<R> {
 
     /// Lends a range of a device that no disk which is out has a sector of.
     fn lend(&mut self, name: &str, first: u64, sectors: u64) -> Result<FileDisk, Refusal>
-        ensures place { IfOk result (λ disk. (disk.device ≡ name.now) × (disk.first ≡ first) × (disk.sectors ≡ sectors)) }
+        ensures place { IfOk result (λ disk. (disk.device ≡ name.now) × (disk.first ≡ first)
+            × (disk.sectors ≡ sectors)) }
         ensures free { IfOk result (λ disk. IsFree place_of sectors_of (loans_of self.old.loans.entries.items) name.now first sectors) }
         ensures loans { IfOk result (λ disk. loans_of self.new.loans.entries.items
             ≡ loans_of self.old.loans.entries.items ++ new_loan disk ∷ []) }
-        ensures refused { OnErr result (loans_of self.new.loans.entries.items ≡ loans_of self.old.loans.entries.items) }
+        ensures refused { OnErr result (loans_of self.new.loans.entries.items
+            ≡ loans_of self.old.loans.entries.items) }
         ensures sizes { KeepsSizes (size_in self.old.devices.items) (size_in self.new.devices.items) }
         ensures faults { self.new.faults ≡ self.old.faults }
     {

@@ -26,7 +26,8 @@ impl FileDisk {
     /// So many sectors of an open file, from sector `first` on.
     pub fn new(device: Name, file: File, first: u64, sectors: u64) -> FileDisk
         requires { (first + sectors) * 512 < 2 ^ 64 }
-        ensures place { (result.device ≡ device) × (result.first ≡ first) × (result.sectors ≡ sectors) }
+        ensures place { (result.device ≡ device) × (result.first ≡ first)
+            × (result.sectors ≡ sectors) }
         ensures sound { (result.stopped ≡ false) × (result.faults.count ≡ 0) }
     {
         FileDisk {

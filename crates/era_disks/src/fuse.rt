@@ -76,10 +76,13 @@ impl FuseEnd {
     /// the fuse burns where the write is the fuse's.
     pub fn begin_write(&mut self, device: &str, first: u64, offset: u64)
         ensures burns { IsFuseWrite device.now (first + offset) self.old → self.new.burnt ≡ true }
-        ensures only { (IsFuseWrite device.now (first + offset) self.old → ⊥) → self.new.burnt ≡ self.old.burnt }
+        ensures only { (IsFuseWrite device.now (first + offset) self.old → ⊥)
+            → self.new.burnt ≡ self.old.burnt }
         ensures stays { self.old.burnt ≡ true → self.new.burnt ≡ true }
-        ensures here { IsAtFuse device.now (first + offset) self.old → self.new.writes ≡ one_more self.old.writes }
-        ensures elsewhere { (IsAtFuse device.now (first + offset) self.old → ⊥) → self.new ≡ self.old }
+        ensures here { IsAtFuse device.now (first + offset) self.old
+            → self.new.writes ≡ one_more self.old.writes }
+        ensures elsewhere { (IsAtFuse device.now (first + offset) self.old → ⊥)
+            → self.new ≡ self.old }
         ensures same { self.new.fuse ≡ self.old.fuse }
     {
         if !self.is_at(device, first, offset) {

@@ -43,7 +43,8 @@ impl<D: Disk> Loans<D> {
     pub fn begin(&mut self, device: Name, first: u64, disk: &D)
         requires room { vec_len self.old.entries < vec_capacity self.old.entries }
         requires place { D.place disk.now ≡ record { device = device; first = first } }
-        ensures { loans_of self.new.entries.items ≡ loans_of self.old.entries.items ++ new_loan disk.now ∷ [] }
+        ensures { loans_of self.new.entries.items ≡ loans_of self.old.entries.items
+            ++ new_loan disk.now ∷ [] }
     {
         let entry = LoanEntry {
             device,
@@ -91,9 +92,11 @@ fn first_blocking<D>(
     first: u64,
     count: u64,
 ) -> Option<usize>
-    ensures some { IfSome result (λ index. (entry : LoanEntry D) × (slice_get entries.now index ≡ Some entry)
+    ensures some { IfSome result (λ index. (entry : LoanEntry D)
+        × (slice_get entries.now index ≡ Some entry)
         × Blocks device.now first count entry) }
-    ensures none { IfNone result ((index : ℕ) (entry : LoanEntry D) → slice_get entries.now index ≡ Some entry
+    ensures none { IfNone result ((index : ℕ) (entry : LoanEntry D)
+        → slice_get entries.now index ≡ Some entry
         → Blocks device.now first count entry → ⊥) }
 {
     for index in 0..entries.len() {
@@ -107,7 +110,8 @@ fn first_blocking<D>(
 /// The index of the last entry whose disk is out and has this place and so many sectors.
 fn last_out<D>(entries: &[LoanEntry<D>], device: &str, first: u64, sectors: u64) -> Option<usize>
     ensures some { IfSome result (λ index. IsLastOut entries.now device.now first sectors index) }
-    ensures none { IfNone result ((index : ℕ) (entry : LoanEntry D) → slice_get entries.now index ≡ Some entry
+    ensures none { IfNone result ((index : ℕ) (entry : LoanEntry D)
+        → slice_get entries.now index ≡ Some entry
         → IsOutAt device.now first sectors entry → ⊥) }
 {
     for index in (0..entries.len()).rev() {

@@ -86,14 +86,18 @@ impl MemBay {
         sectors: u64,
     ) -> Result<MemDisk, Memory>
         requires { LiesAt self.old name.now index first sectors }
-        ensures place { IfOk result (λ disk. place_of disk ≡ record { device = name.now; first = first }) }
+        ensures place { IfOk result (λ disk. place_of disk
+            ≡ record { device = name.now; first = first }) }
         ensures size { IfOk result (λ disk. sectors_of disk ≡ sectors) }
-        ensures rows { (found : IsFoundAt self.old.devices.items name.now index) → IfOk result (λ disk.
+        ensures rows { (found : IsFoundAt self.old.devices.items name.now index)
+            → IfOk result (λ disk.
             disk.state.rows.items ≡ take sectors (drop first found.device.state.rows.items)) }
         ensures fresh { IfOk result (λ disk. IsFresh self.old name.now disk) }
-        ensures loans { IfOk result (λ disk. bay_loans self.new ≡ bay_loans self.old ++ new_loan disk ∷ []) }
+        ensures loans { IfOk result (λ disk. bay_loans self.new ≡ bay_loans self.old
+            ++ new_loan disk ∷ []) }
         ensures err { OnErr result (bay_loans self.new ≡ bay_loans self.old) }
-        ensures rest { (self.new.devices ≡ self.old.devices) × (bay_faults self.new ≡ bay_faults self.old)
+        ensures rest { (self.new.devices ≡ self.old.devices)
+            × (bay_faults self.new ≡ bay_faults self.old)
             × (self.new.calls ≡ self.old.calls) × (self.new.fuse ≡ self.old.fuse) }
     {
         self.loans.reserve()?;
@@ -113,15 +117,19 @@ impl MemBay {
         sectors: u64,
     ) -> Result<MemDisk, BayError>
         requires { LiesAt self.old name.now index first sectors }
-        ensures place { IfOk result (λ disk. (place_of disk ≡ record { device = name.now; first = first })
+        ensures place { IfOk result (λ disk. (place_of disk
+            ≡ record { device = name.now; first = first })
             × (sectors_of disk ≡ sectors) × IsFresh self.old name.now disk) }
         ensures content { IfOk result (λ disk. ReadsAs (reads_of self.old) name.now first sectors (history_of disk).now) }
         ensures free { OnOk result (IsFree place_of sectors_of (bay_loans self.old) name.now first sectors) }
-        ensures loans { IfOk result (λ disk. bay_loans self.new ≡ bay_loans self.old ++ new_loan disk ∷ []) }
+        ensures loans { IfOk result (λ disk. bay_loans self.new ≡ bay_loans self.old
+            ++ new_loan disk ∷ []) }
         ensures refused { OnErr result (bay_loans self.new ≡ bay_loans self.old) }
-        ensures rest { (self.new.devices ≡ self.old.devices) × (self.new.calls ≡ self.old.calls) × (self.new.fuse ≡ self.old.fuse) }
+        ensures rest { (self.new.devices ≡ self.old.devices) × (self.new.calls ≡ self.old.calls)
+            × (self.new.fuse ≡ self.old.fuse) }
         ensures cause { HasBayCause (bay_faults self.old) (bay_faults self.new) result
-            × (IsErrOf result BayError.Failed → bay_faults self.new ≡ one_more (bay_faults self.old)) }
+            × (IsErrOf result BayError.Failed
+            → bay_faults self.new ≡ one_more (bay_faults self.old)) }
         ensures why { IsErrOf result BayError.Failed ↔ IsRefusedAt self.old name.now first sectors }
     {
         if self.loans.is_free(name, first, sectors) {
@@ -138,7 +146,8 @@ impl MemBay {
     fn end_loan(&mut self, disk: &MemDisk)
         requires { (index : ℕ) × IsOut place_of sectors_of (bay_loans self.old) (place_of disk.now) (sectors_of disk.now) index }
         ensures loans { EndsLoan place_of sectors_of disk.now (bay_loans self.old) (bay_loans self.new) }
-        ensures rest { (self.new.devices ≡ self.old.devices) × (bay_faults self.new ≡ bay_faults self.old)
+        ensures rest { (self.new.devices ≡ self.old.devices)
+            × (bay_faults self.new ≡ bay_faults self.old)
             × (self.new.calls ≡ self.old.calls) × (self.new.fuse ≡ self.old.fuse) }
     {
         self.loans.end(disk.device.as_str(), disk.first, disk);
@@ -151,7 +160,8 @@ impl MemBay {
         ensures others { SameReadsBut disk.device disk.first (sectors_of disk) (reads_of self.old) (reads_of self.new) }
         ensures sizes { (name : List ℕ) → sizes_of self.new name ≡ sizes_of self.old name }
         ensures calls { ForgetsCalls disk.device self.old self.new }
-        ensures rest { (bay_loans self.new ≡ bay_loans self.old) × (bay_faults self.new ≡ bay_faults self.old) × (self.new.calls ≡ self.old.calls) }
+        ensures rest { (bay_loans self.new ≡ bay_loans self.old)
+            × (bay_faults self.new ≡ bay_faults self.old) × (self.new.calls ≡ self.old.calls) }
         ensures fuse { LearnsFuse disk.fuse self.old.fuse self.new.fuse }
     {
         let MemDisk {
@@ -193,10 +203,13 @@ impl Bay for MemBay {
         ensures reads { SameReads (reads_of self.old) (reads_of self.new) }
         ensures loans { bay_loans self.new ≡ bay_loans self.old }
         ensures cause { HasBayCause (bay_faults self.old) (bay_faults self.new) result
-            × (IsErrOf result BayError.Failed → bay_faults self.new ≡ one_more (bay_faults self.old)) }
-        ensures refused { IsErrOf result BayError.Failed ↔ (NextFails self.old.calls.sizes ⊎ (sizes_of self.old name.now ≡ None)) }
+            × (IsErrOf result BayError.Failed
+            → bay_faults self.new ≡ one_more (bay_faults self.old)) }
+        ensures refused { IsErrOf result BayError.Failed ↔ (NextFails self.old.calls.sizes
+            ⊎ (sizes_of self.old name.now ≡ None)) }
         ensures never { IsErrOf result BayError.Memory → ⊥ }
-        ensures calls { (self.new.calls ≡ record self.old.calls { sizes = one_begun self.old.calls.sizes })
+        ensures calls { (self.new.calls
+            ≡ record self.old.calls { sizes = one_begun self.old.calls.sizes })
             × SameCalls self.old self.new × (self.new.fuse ≡ self.old.fuse) }
     {
         if self.calls.sizes.begin() {
@@ -209,18 +222,23 @@ impl Bay for MemBay {
     }
 
     fn open_meta(&mut self, name: &str) -> Result<MemDisk, BayError>
-        ensures lent { IfOk result (λ disk. (place_of disk ≡ record { device = name.now; first = 0 }) × IsFresh self.old name.now disk) }
+        ensures lent { IfOk result (λ disk. (place_of disk
+            ≡ record { device = name.now; first = 0 }) × IsFresh self.old name.now disk) }
         ensures whole { IfOk result (λ disk. sizes_of self.new name.now ≡ Some (sectors_of disk)) }
         ensures content { IfOk result (λ disk. ReadsAs (reads_of self.old) name.now 0 (sectors_of disk) (history_of disk).now) }
         ensures free { IfOk result (λ disk. IsFree place_of sectors_of (bay_loans self.old) name.now 0 (sectors_of disk)) }
-        ensures loans { IfOk result (λ disk. bay_loans self.new ≡ bay_loans self.old ++ new_loan disk ∷ []) }
+        ensures loans { IfOk result (λ disk. bay_loans self.new ≡ bay_loans self.old
+            ++ new_loan disk ∷ []) }
         ensures refused { OnErr result (bay_loans self.new ≡ bay_loans self.old)
-            × (IsErrOf result BayError.Failed ↔ WontLend self.old.calls.metas self.old name.now 0 (λ size. size)) }
-        ensures same { KeepsSizes (sizes_of self.old) (sizes_of self.new) × SameReads (reads_of self.old) (reads_of self.new)
+            × (IsErrOf result BayError.Failed
+            ↔ WontLend self.old.calls.metas self.old name.now 0 (λ size. size)) }
+        ensures same { KeepsSizes (sizes_of self.old) (sizes_of self.new)
+            × SameReads (reads_of self.old) (reads_of self.new)
             × (self.new.calls ≡ record self.old.calls { metas = one_begun self.old.calls.metas })
             × SameCalls self.old self.new × (self.new.fuse ≡ self.old.fuse) }
         ensures cause { HasBayCause (bay_faults self.old) (bay_faults self.new) result
-            × (IsErrOf result BayError.Failed → bay_faults self.new ≡ one_more (bay_faults self.old)) }
+            × (IsErrOf result BayError.Failed
+            → bay_faults self.new ≡ one_more (bay_faults self.old)) }
     {
         if self.calls.metas.begin() {
             return self.refuse();
@@ -236,18 +254,23 @@ impl Bay for MemBay {
 
     fn open_part(&mut self, name: &str, first: u64, sectors: u64) -> Result<MemDisk, BayError>
         requires { (size : ℕ) → sizes_of self.old name.now ≡ Some size → first + sectors ≤ size }
-        ensures lent { IfOk result (λ disk. (place_of disk ≡ record { device = name.now; first = first })
+        ensures lent { IfOk result (λ disk. (place_of disk
+            ≡ record { device = name.now; first = first })
             × (sectors_of disk ≡ sectors) × IsFresh self.old name.now disk) }
         ensures content { IfOk result (λ disk. ReadsAs (reads_of self.old) name.now first sectors (history_of disk).now) }
         ensures free { OnOk result (IsFree place_of sectors_of (bay_loans self.old) name.now first sectors) }
-        ensures loans { IfOk result (λ disk. bay_loans self.new ≡ bay_loans self.old ++ new_loan disk ∷ []) }
+        ensures loans { IfOk result (λ disk. bay_loans self.new ≡ bay_loans self.old
+            ++ new_loan disk ∷ []) }
         ensures refused { OnErr result (bay_loans self.new ≡ bay_loans self.old)
-            × (IsErrOf result BayError.Failed ↔ WontLend self.old.calls.parts self.old name.now first (λ _. sectors)) }
-        ensures same { KeepsSizes (sizes_of self.old) (sizes_of self.new) × SameReads (reads_of self.old) (reads_of self.new)
+            × (IsErrOf result BayError.Failed
+            ↔ WontLend self.old.calls.parts self.old name.now first (λ _. sectors)) }
+        ensures same { KeepsSizes (sizes_of self.old) (sizes_of self.new)
+            × SameReads (reads_of self.old) (reads_of self.new)
             × (self.new.calls ≡ record self.old.calls { parts = one_begun self.old.calls.parts })
             × SameCalls self.old self.new × (self.new.fuse ≡ self.old.fuse) }
         ensures cause { HasBayCause (bay_faults self.old) (bay_faults self.new) result
-            × (IsErrOf result BayError.Failed → bay_faults self.new ≡ one_more (bay_faults self.old)) }
+            × (IsErrOf result BayError.Failed
+            → bay_faults self.new ≡ one_more (bay_faults self.old)) }
     {
         if self.calls.parts.begin() {
             return self.refuse();

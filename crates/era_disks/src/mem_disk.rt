@@ -43,9 +43,11 @@ impl MemDisk {
     /// A whole device of zeros, of which nothing is pending. No call of it fails. Disks in memory tell of their content.
     pub fn new(alloc: Global, name: &str, sectors: u64) -> Result<MemDisk, Memory>
         ensures tells { ⟦<MemDisk as Disk>⟧.tells ≡ true }
-        ensures place { IfOk result (λ disk. place_of disk ≡ record { device = name.now; first = 0 }) }
+        ensures place { IfOk result (λ disk. place_of disk
+            ≡ record { device = name.now; first = 0 }) }
         ensures size { IfOk result (λ disk. sectors_of disk ≡ sectors) }
-        ensures zeros { IfOk result (λ disk. history_of disk ≡ record { past = []; now = blank_state sectors }) }
+        ensures zeros { IfOk result (λ disk. history_of disk
+            ≡ record { past = []; now = blank_state sectors }) }
         ensures synced { IfOk result (λ disk. synced_in disk ≡ (history_of disk).now.seen) }
         ensures counts { IfOk result (λ disk. (faults_of disk ≡ 0) × (starved_of disk ≡ 0)) }
         ensures calls { IfOk result (λ disk. (disk.calls ≡ no_disk_calls) × (disk.fuse ≡ None)) }
@@ -90,7 +92,8 @@ impl MemDisk {
 
     /// From now on the call of this kind with this number fails. Each kind is counted from 0.
     pub fn fail(&mut self, call: DiskCall, number: u64) -> Result<(), Memory>
-        ensures ok { OnOk result (self.new ≡ record self.old { calls = also_failing_call call number self.old.calls }) }
+        ensures ok { OnOk result (self.new
+            ≡ record self.old { calls = also_failing_call call number self.old.calls }) }
         ensures err { OnErr result (self.new ≡ self.old) }
     {
         self.calls.fail(call, number)
@@ -98,7 +101,8 @@ impl MemDisk {
 
     /// Puts a fuse into this disk alone, in place of any other. The write that it names and every later call fail.
     pub fn set_fuse(&mut self, fuse: Fuse) -> Result<(), Memory>
-        ensures ok { OnOk result ((end : FuseEnd) × (self.new ≡ record self.old { fuse = Some end }) × IsUnburnt fuse end) }
+        ensures ok { OnOk result ((end : FuseEnd) × (self.new ≡ record self.old { fuse = Some end })
+            × IsUnburnt fuse end) }
         ensures err { OnErr result (self.new ≡ self.old) }
     {
         self.fuse = Some(FuseEnd::new(self.alloc, fuse)?);
@@ -110,15 +114,21 @@ impl MemDisk {
     /// torn, and all still pend.
     pub fn crash(&mut self, tear: Tear) -> Result<(), Memory>
         ensures image { IsCrashImage (history_of self.old).now (history_of self.new).now.seen }
-        ensures clean { OnOk result (IsClean (history_of self.new).now × (synced_in self.new ≡ (history_of self.new).now.seen)) }
-        ensures keep { tear ≡ Tear.Keep → OnOk result ((history_of self.new).now.seen ≡ (history_of self.old).now.seen) }
-        ensures old { tear ≡ Tear.Old → OnOk result ((history_of self.new).now.seen ≡ synced_in self.old) }
+        ensures clean { OnOk result (IsClean (history_of self.new).now
+            × (synced_in self.new ≡ (history_of self.new).now.seen)) }
+        ensures keep { tear ≡ Tear.Keep
+            → OnOk result ((history_of self.new).now.seen ≡ (history_of self.old).now.seen) }
+        ensures old { tear ≡ Tear.Old → OnOk result ((history_of self.new).now.seen
+            ≡ synced_in self.old) }
         ensures fill { (byte : ℕ) → tear ≡ Tear.Fill byte
             → OnOk result (IsFilled byte (history_of self.old).now (history_of self.new).now.seen) }
         ensures full { OnErr result (TakesMemory tear) }
-        ensures anew { ((history_of self.new).past ≡ []) × HasNewRecord self.new × (self.new.fuse ≡ None) }
-        ensures same { (place_of self.new ≡ place_of self.old) × (sectors_of self.new ≡ sectors_of self.old) }
-        ensures rest { (faults_of self.new ≡ faults_of self.old) × (starved_of self.new ≡ starved_of self.old)
+        ensures anew { ((history_of self.new).past ≡ []) × HasNewRecord self.new
+            × (self.new.fuse ≡ None) }
+        ensures same { (place_of self.new ≡ place_of self.old)
+            × (sectors_of self.new ≡ sectors_of self.old) }
+        ensures rest { (faults_of self.new ≡ faults_of self.old)
+            × (starved_of self.new ≡ starved_of self.old)
             × (self.new.calls ≡ self.old.calls) }
     {
         self.past = Past::Start;
@@ -177,7 +187,8 @@ impl Disk for MemDisk {
         ensures fails { Fails self.old.calls.reads self.old self.new result }
         ensures noted { Notes (MadeCall.Read first (length into.old / 512)) self.old self.new result }
         ensures fuse { KeepsFuse self.old.fuse self.new.fuse }
-        ensures calls { (self.new.calls ≡ record self.old.calls { reads = one_begun self.old.calls.reads })
+        ensures calls { (self.new.calls
+            ≡ record self.old.calls { reads = one_begun self.old.calls.reads })
             × (synced_in self.new ≡ synced_in self.old) }
     {
         self.past.pass(&self.state);
@@ -211,7 +222,8 @@ impl Disk for MemDisk {
         ensures fuse { PassesFuse self.old.device (self.old.first + first) self.old.fuse self.new.fuse }
         ensures bytes { NextFails self.old.calls.writes ⊎ IsBurnt self.new.fuse
             → (history_of self.new).now.seen ≡ (history_of self.old).now.seen }
-        ensures calls { (self.new.calls ≡ record self.old.calls { writes = one_begun self.old.calls.writes })
+        ensures calls { (self.new.calls
+            ≡ record self.old.calls { writes = one_begun self.old.calls.writes })
             × (synced_in self.new ≡ synced_in self.old) }
     {
         self.past.pass(&self.state);
@@ -251,7 +263,8 @@ impl Disk for MemDisk {
         ensures noted { Notes MadeCall.Sync self.old self.new result }
         ensures fuse { KeepsFuse self.old.fuse self.new.fuse }
         ensures calls { self.new.calls ≡ record self.old.calls { syncs = one_begun self.old.calls.syncs } }
-        ensures synced { MatchResult result (λ _. synced_in self.new ≡ (history_of self.new).now.seen)
+        ensures synced { MatchResult result (λ _. synced_in self.new
+            ≡ (history_of self.new).now.seen)
             (λ _. synced_in self.new ≡ synced_in self.old) }
     {
         self.past.pass(&self.state);

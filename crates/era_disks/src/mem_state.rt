@@ -70,10 +70,12 @@ impl MemState {
     /// Writes whole sectors, and marks none. Where memory is refused, a front of them may be written.
     pub fn put(&mut self, alloc: Global, first: usize, bytes: &[u8]) -> Result<(), Memory>
         requires lies { LiesOn (length self.old.rows.items) first (length bytes.now) }
-        requires marked { take (length bytes.now / 512) (drop first self.old.pending.items) ≡ replicate (length bytes.now / 512) true }
+        requires marked { take (length bytes.now / 512) (drop first self.old.pending.items)
+            ≡ replicate (length bytes.now / 512) true }
         ensures pending { self.new.pending.items ≡ self.old.pending.items }
         ensures size { length self.new.rows.items ≡ length self.old.rows.items }
-        ensures written { OnOk result ((state_of self.new).seen ≡ splice (state_of self.old).seen (first * 512) bytes.now) }
+        ensures written { OnOk result ((state_of self.new).seen
+            ≡ splice (state_of self.old).seen (first * 512) bytes.now) }
         ensures same { SameBut (first * 512) (first * 512 + length bytes.now) (state_of self.old) (state_of self.new) }
         ensures synced { synced_of self.new ≡ synced_of self.old }
     {
@@ -96,9 +98,12 @@ impl MemState {
     pub fn crash(&mut self, alloc: Global, tear: Tear) -> Result<(), Memory>
         ensures image { IsCrashImage (state_of self.old) (state_of self.new).seen }
         ensures size { length self.new.rows.items ≡ length self.old.rows.items }
-        ensures clean { OnOk result (IsClean (state_of self.new) × (synced_of self.new ≡ (state_of self.new).seen)) }
-        ensures keep { tear ≡ Tear.Keep → OnOk result ((state_of self.new).seen ≡ (state_of self.old).seen) }
-        ensures old { tear ≡ Tear.Old → OnOk result ((state_of self.new).seen ≡ synced_of self.old) }
+        ensures clean { OnOk result (IsClean (state_of self.new)
+            × (synced_of self.new ≡ (state_of self.new).seen)) }
+        ensures keep { tear ≡ Tear.Keep
+            → OnOk result ((state_of self.new).seen ≡ (state_of self.old).seen) }
+        ensures old { tear ≡ Tear.Old → OnOk result ((state_of self.new).seen
+            ≡ synced_of self.old) }
         ensures fill { (byte : ℕ) → tear ≡ Tear.Fill byte
             → OnOk result (IsFilled byte (state_of self.old) (state_of self.new).seen) }
         ensures full { OnErr result (TakesMemory tear) }

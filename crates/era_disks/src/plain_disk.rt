@@ -24,9 +24,11 @@ impl PlainDisk {
 
     /// A disk of zeros. No later call of it takes memory.
     pub fn new(alloc: Global, name: &str, first: u64, sectors: u64) -> Result<PlainDisk, Memory>
-        ensures place { IfOk result (λ disk. plain_place disk ≡ record { device = name.now; first = first }) }
+        ensures place { IfOk result (λ disk. plain_place disk
+            ≡ record { device = name.now; first = first }) }
         ensures size { IfOk result (λ disk. plain_sectors disk ≡ sectors) }
-        ensures zeros { IfOk result (λ disk. (plain_history disk).now.seen ≡ replicate (sectors * 512) 0) }
+        ensures zeros { IfOk result (λ disk. (plain_history disk).now.seen
+            ≡ replicate (sectors * 512) 0) }
         ensures fresh { IfOk result IsUnused }
     {
         let Some(size) = sectors.checked_mul(512) else {
@@ -42,7 +44,8 @@ impl PlainDisk {
         requires { length bytes.items ≡ sectors * 512 }
         ensures place { plain_place result ≡ record { device = device; first = first } }
         ensures size { plain_sectors result ≡ sectors }
-        ensures content { plain_history result ≡ record { past = []; now = plain_state bytes.items } }
+        ensures content { plain_history result
+            ≡ record { past = []; now = plain_state bytes.items } }
         ensures fresh { IsUnused result }
         ensures room { plain_room result ≡ vec_capacity bytes }
     {

@@ -17,7 +17,8 @@ pub struct StdSource<I: Read + Drop> {
 impl<I: Read + Drop> StdSource<I> {
     /// The bytes that the reader gives.
     pub fn new(input: I) -> StdSource<I>
-        ensures { (result.input ≡ input) × (result.faults.count ≡ 0) × (result.faults.first ≡ None) }
+        ensures { (result.input ≡ input) × (result.faults.count ≡ 0)
+            × (result.faults.first ≡ None) }
     {
         StdSource {
             input,
@@ -76,7 +77,8 @@ pub struct StdSink<O: Write + Drop> {
 impl<O: Write + Drop> StdSink<O> {
     /// What is given goes to the writer.
     pub fn new(output: O) -> StdSink<O>
-        ensures { (result.output ≡ output) × (result.faults.count ≡ 0) × (result.faults.first ≡ None) }
+        ensures { (result.output ≡ output) × (result.faults.count ≡ 0)
+            × (result.faults.first ≡ None) }
     {
         StdSink {
             output,

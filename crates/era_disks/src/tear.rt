@@ -20,7 +20,8 @@ pub enum Tear {
 /// Forgets what was kept of sectors that aren't pending.
 pub fn forget_rows(pending: &[bool], kept: &mut [Option<Bytes>])
     requires { length kept.old ≡ length pending.now }
-    ensures { (rows : List (List ℕ)) → synced_rows (replicate (length pending.now) true) kept.new rows
+    ensures { (rows : List (List ℕ))
+        → synced_rows (replicate (length pending.now) true) kept.new rows
         ≡ synced_rows pending.now kept.old rows }
 {
     if let Some((flag, flags)) = pending.split_first() {

@@ -60,7 +60,8 @@ impl TextSink {
     /// The gives are counted from 0. Of two entries for one give the first one counts.
     pub fn fail(&mut self, number: u64, taken: usize) -> Result<(), Memory>
         ensures ok { OnOk result (self.new ≡ record self.old { failing = self.new.failing }) }
-        ensures listed { OnOk result (self.new.failing.items ≡ self.old.failing.items ++ record { number = number; taken = taken } ∷ []) }
+        ensures listed { OnOk result (self.new.failing.items ≡ self.old.failing.items
+            ++ record { number = number; taken = taken } ∷ []) }
         ensures err { OnErr result (self.new.failing.items ≡ self.old.failing.items) }
     {
         self.failing.push(FailingGive { number, taken })?;
@@ -107,13 +108,15 @@ impl Sink for TextSink {
 
     fn give(&mut self, bytes: &[u8]) -> Result<(), Failed>
         ensures given { GivesTo (Some (given_to self.old)) (Some (given_to self.new)) bytes.now result }
-        ensures named { (taken : ℕ) → next_taken self.old ≡ Some taken → IsErr result × GivesListed taken bytes.now self.old self.new }
+        ensures named { (taken : ℕ) → next_taken self.old ≡ Some taken → IsErr result
+            × GivesListed taken bytes.now self.old self.new }
         ensures only { next_taken self.old ≡ None → GivesWhole bytes.now self.old self.new result }
         ensures room { next_taken self.old ≡ None → KeepsRoom bytes.now self.old self.new result }
         ensures kept { room_of self.old ≤ room_of self.new }
         ensures cause { HasCause (sink_faults self.old) (sink_faults self.new) result }
         ensures faults { CountsFailure (sink_faults self.old) (sink_faults self.new) result }
-        ensures calls { (self.new.failing ≡ self.old.failing) × (self.new.gives ≡ one_more self.old.gives) }
+        ensures calls { (self.new.failing ≡ self.old.failing)
+            × (self.new.gives ≡ one_more self.old.gives) }
     {
         let taken = find_give(self.failing.as_slice(), self.gives);
         self.gives = self.gives.saturating_add(1);

@@ -24,7 +24,8 @@ impl TextSource {
     /// A source that has all the bytes left, and of which no take fails.
     pub fn new(alloc: Global, bytes: &[u8]) -> Result<TextSource, Memory>
         ensures all { IfOk result (λ source. left_in source ≡ bytes.now) }
-        ensures told { IfOk result (λ source. ⟦<TextSource as Source>⟧.left source ≡ Some bytes.now) }
+        ensures told { IfOk result (λ source. ⟦<TextSource as Source>⟧.left source
+            ≡ Some bytes.now) }
         ensures faults { IfOk result (λ source. source_faults source ≡ 0) }
         ensures calls { IfOk result (λ source. source.takes ≡ no_calls) }
     {
@@ -38,7 +39,8 @@ impl TextSource {
 
     /// From now on the take with this number fails. The takes are counted from 0.
     pub fn fail(&mut self, number: u64) -> Result<(), Memory>
-        ensures ok { OnOk result (self.new ≡ record self.old { takes = also_failing number self.old.takes }) }
+        ensures ok { OnOk result (self.new
+            ≡ record self.old { takes = also_failing number self.old.takes }) }
         ensures err { OnErr result (self.new ≡ self.old) }
     {
         self.takes.fail(number)
