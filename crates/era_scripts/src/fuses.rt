@@ -112,7 +112,7 @@ fn a_disk_records_its_calls(rt: HostRuntime) -> Result<(), Fail> {
     Ok(())
 }
 
-/// A bay with two devices of four sectors, and a fuse at the first write of the second one's last sector.
+/// A bay with two devices of four sectors, and a fuse at the first write from the second one's last sector.
 fn bay_of_two(alloc: Global) -> Result<MemBay, Memory> {
     let mut bay = MemBay::new(alloc);
     bay.add("meta", 4)?;
@@ -121,15 +121,46 @@ fn bay_of_two(alloc: Global) -> Result<MemBay, Memory> {
     Ok(bay)
 }
 
-#[test]
-fn a_fuse_stops_all_disks_of_a_bay(rt: HostRuntime) -> Result<(), Fail> {
-    let mut bay = bay_of_two(rt.alloc())?;
+/// Two disks of a bay, of which the second one's last write burns the fuse; all that the first one is asked afterwards
+/// fails.
+fn two_stopped(alloc: Global) -> Result<(MemDisk, MemDisk), Fail> {
+    let mut bay = bay_of_two(alloc)?;
     let mut meta = bay.open_meta("meta")?;
     let mut origin = bay.open_meta("origin")?;
-    assert!(rt; writes(&mut meta, 0, 4, 1) && writes(&mut origin, 0, 4, 1));
-    assert!(rt; !writes(&mut origin, 3, 1, 2));
-    assert!(rt; heads(&mut origin) == None && heads(&mut meta) == None);
-    assert!(rt; meta.sync().is_err() && !writes(&mut meta, 0, 1, 3));
-    assert!(rt; origin.faults() == 2 && meta.faults() == 3 && bay.faults() == 0);
+    let _ = writes(&mut meta, 0, 4, 1) && writes(&mut origin, 0, 4, 1);
+    let _ = meta.sync().is_ok() && origin.sync().is_ok();
+    let _ = writes(&mut meta, 1, 2, 2);
+    let _ = writes(&mut origin, 3, 1, 2);
+    let _ = writes(&mut meta, 0, 1, 3);
+    let _ = meta.sync();
+    Ok((meta, origin))
+}
+
+#[test]
+fn a_fuse_stops_all_disks_of_a_bay(rt: HostRuntime) -> Result<(), Fail> {
+    let (mut meta, mut origin) = two_stopped(rt.alloc())?;
+    assert!(rt; meta.faults() == 2 && origin.faults() == 1);
+    assert!(rt; heads(&mut meta) == None && heads(&mut origin) == None);
+    assert!(rt; origin.sync().is_err() && !writes(&mut origin, 0, 1, 4));
+    assert!(rt; meta.faults() == 3 && origin.faults() == 4);
+    Ok(())
+}
+
+/// The heads of both disks after a crash with this tear.
+fn left_of_two(alloc: Global, tear: Tear) -> Result<[Option<[u8; 4]>; 2], Fail> {
+    let (mut meta, mut origin) = two_stopped(alloc)?;
+    meta.crash(tear)?;
+    origin.crash(tear)?;
+    Ok([heads(&mut meta), heads(&mut origin)])
+}
+
+#[test]
+fn stopped_disks_of_a_bay_are_torn(rt: HostRuntime) -> Result<(), Fail> {
+    let kept = [Some([1, 2, 2, 1]), Some([1, 1, 1, 1])];
+    assert!(rt; left_of_two(rt.alloc(), Tear::Keep)? == kept);
+    let old = [Some([1, 1, 1, 1]), Some([1, 1, 1, 1])];
+    assert!(rt; left_of_two(rt.alloc(), Tear::Old)? == old);
+    let filled = [Some([9, 9, 9, 1]), Some([1, 1, 1, 9])];
+    assert!(rt; left_of_two(rt.alloc(), Tear::Fill(9))? == filled);
     Ok(())
 }

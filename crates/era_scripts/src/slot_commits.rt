@@ -41,13 +41,25 @@ fn an_open_slot_of_number_0_is_refused(rt: HostRuntime) -> Result<(), Fail> {
     Ok(())
 }
 
-/// The writes of three commits, in their order: number and body, then the gate; and before the third body its gate.
+/// The write of the first number and body.
 const FIRST_BODY: Stop = Stop::Write(1, 0);
+
+/// The write that opens the gate over them.
 const FIRST_GATE: Stop = Stop::Write(0, 0);
+
+/// The write of the second number and body, into the other slot.
 const SECOND_BODY: Stop = Stop::Write(9, 0);
+
+/// The write that opens the gate over these.
 const SECOND_GATE: Stop = Stop::Write(8, 0);
+
+/// The write that closes the first gate again.
 const CLOSING: Stop = Stop::Write(0, 1);
+
+/// The write of the third number and body, over the first ones.
 const THIRD_BODY: Stop = Stop::Write(1, 1);
+
+/// The write that opens the gate over these in turn.
 const THIRD_GATE: Stop = Stop::Write(0, 2);
 
 /// What an opening gives after a crash with this tear, where the commits were stopped.

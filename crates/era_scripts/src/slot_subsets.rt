@@ -2,7 +2,9 @@
 
 ghost use Rattle.std.specs.Prelude.{◌+◌, ◌≤◌};
 
-use crate::slot_disks::{FIRST, SECOND, SECOND_ALONE, Seen, Stop, THIRD, blank, cut_at, opening_of};
+use crate::slot_disks::{
+    FIRST, SECOND, SECOND_ALONE, Seen, Stop, THIRD, blank, cut_at, opening_of,
+};
 use era_base::Disk;
 use era_disks::Tear;
 use std::alloc::Global;
