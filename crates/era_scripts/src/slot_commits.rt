@@ -69,56 +69,79 @@ fn left_by(alloc: Global, stop: Stop, tear: Tear) -> Result<Seen, Memory> {
     Ok(opening_of(alloc, disk))
 }
 
+/// The first of the rows whose crash leaves anything else than it says, or `None`.
+fn first_unmet(alloc: Global, rows: &[(Stop, Tear, Seen)]) -> Result<Option<(Stop, Tear)>, Memory> {
+    for (stop, tear, seen) in rows {
+        if left_by(alloc, *stop, *tear)? != *seen {
+            return Ok(Some((*stop, *tear)));
+        }
+    }
+    Ok(None)
+}
+
 #[test]
 fn a_crash_at_a_write_leaves_the_old_body_or_the_new(rt: HostRuntime) -> Result<(), Fail> {
-    let left = |stop, tear| left_by(rt.alloc(), stop, tear);
-    assert!(rt; left(FIRST_BODY, Tear::Keep)? == Seen::Blank);
-    assert!(rt; left(FIRST_BODY, Tear::Old)? == Seen::Blank);
-    assert!(rt; left(FIRST_BODY, Tear::Fill(1))? == Seen::Blank);
-    assert!(rt; left(FIRST_GATE, Tear::Keep)? == Seen::Blank);
-    assert!(rt; left(FIRST_GATE, Tear::Old)? == Seen::Blank);
-    assert!(rt; left(FIRST_GATE, Tear::Fill(1))? == FIRST);
-    assert!(rt; left(FIRST_GATE, Tear::Fill(9))? == Seen::Blank);
-    assert!(rt; left(SECOND_BODY, Tear::Keep)? == FIRST);
-    assert!(rt; left(SECOND_BODY, Tear::Old)? == FIRST);
-    assert!(rt; left(SECOND_BODY, Tear::Fill(1))? == FIRST);
-    assert!(rt; left(SECOND_GATE, Tear::Keep)? == FIRST);
-    assert!(rt; left(SECOND_GATE, Tear::Old)? == FIRST);
-    assert!(rt; left(SECOND_GATE, Tear::Fill(1))? == SECOND);
-    assert!(rt; left(SECOND_GATE, Tear::Fill(9))? == FIRST);
+    let rows = [
+        (FIRST_BODY, Tear::Keep, Seen::Blank),
+        (FIRST_BODY, Tear::Old, Seen::Blank),
+        (FIRST_BODY, Tear::Fill(1), Seen::Blank),
+        (FIRST_GATE, Tear::Keep, Seen::Blank),
+        (FIRST_GATE, Tear::Old, Seen::Blank),
+        (FIRST_GATE, Tear::Fill(1), FIRST),
+        (FIRST_GATE, Tear::Fill(9), Seen::Blank),
+        (SECOND_BODY, Tear::Keep, FIRST),
+        (SECOND_BODY, Tear::Old, FIRST),
+        (SECOND_BODY, Tear::Fill(1), FIRST),
+        (SECOND_GATE, Tear::Keep, FIRST),
+        (SECOND_GATE, Tear::Old, FIRST),
+        (SECOND_GATE, Tear::Fill(1), SECOND),
+        (SECOND_GATE, Tear::Fill(9), FIRST),
+    ];
+    assert_eq!(rt; first_unmet(rt.alloc(), rows.as_slice())?, None);
     Ok(())
 }
 
 #[test]
 fn a_crash_at_a_sync_leaves_the_old_body_or_the_new(rt: HostRuntime) -> Result<(), Fail> {
-    let left = |number, tear| left_by(rt.alloc(), Stop::Sync(number), tear);
-    assert!(rt; left(0, Tear::Keep)? == Seen::Blank && left(0, Tear::Old)? == Seen::Blank);
-    assert!(rt; left(0, Tear::Fill(1))? == Seen::Blank);
-    assert!(rt; left(1, Tear::Keep)? == Seen::Blank && left(1, Tear::Old)? == Seen::Blank);
-    assert!(rt; left(1, Tear::Fill(1))? == Seen::Blank);
-    assert!(rt; left(2, Tear::Keep)? == FIRST && left(2, Tear::Old)? == Seen::Blank);
-    assert!(rt; left(2, Tear::Fill(1))? == FIRST && left(2, Tear::Fill(9))? == Seen::Blank);
-    assert!(rt; left(3, Tear::Keep)? == FIRST && left(3, Tear::Old)? == FIRST);
-    assert!(rt; left(3, Tear::Fill(1))? == FIRST);
-    assert!(rt; left(4, Tear::Keep)? == SECOND && left(4, Tear::Old)? == FIRST);
-    assert!(rt; left(4, Tear::Fill(1))? == SECOND && left(4, Tear::Fill(9))? == FIRST);
+    let rows = [
+        (Stop::Sync(0), Tear::Keep, Seen::Blank),
+        (Stop::Sync(0), Tear::Old, Seen::Blank),
+        (Stop::Sync(0), Tear::Fill(1), Seen::Blank),
+        (Stop::Sync(1), Tear::Keep, Seen::Blank),
+        (Stop::Sync(1), Tear::Old, Seen::Blank),
+        (Stop::Sync(1), Tear::Fill(1), Seen::Blank),
+        (Stop::Sync(2), Tear::Keep, FIRST),
+        (Stop::Sync(2), Tear::Old, Seen::Blank),
+        (Stop::Sync(2), Tear::Fill(1), FIRST),
+        (Stop::Sync(2), Tear::Fill(9), Seen::Blank),
+        (Stop::Sync(3), Tear::Keep, FIRST),
+        (Stop::Sync(3), Tear::Old, FIRST),
+        (Stop::Sync(3), Tear::Fill(1), FIRST),
+        (Stop::Sync(4), Tear::Keep, SECOND),
+        (Stop::Sync(4), Tear::Old, FIRST),
+        (Stop::Sync(4), Tear::Fill(1), SECOND),
+        (Stop::Sync(4), Tear::Fill(9), FIRST),
+    ];
+    assert_eq!(rt; first_unmet(rt.alloc(), rows.as_slice())?, None);
     Ok(())
 }
 
 #[test]
 fn a_crash_over_an_older_body_leaves_the_old_body_or_the_new(rt: HostRuntime) -> Result<(), Fail> {
-    let left = |stop, tear| left_by(rt.alloc(), stop, tear);
-    assert!(rt; left(CLOSING, Tear::Keep)? == SECOND);
-    assert!(rt; left(CLOSING, Tear::Fill(1))? == SECOND);
-    assert!(rt; left(CLOSING, Tear::Fill(9))? == SECOND_ALONE);
-    assert!(rt; left(Stop::Sync(5), Tear::Keep)? == SECOND_ALONE);
-    assert!(rt; left(Stop::Sync(5), Tear::Old)? == SECOND);
-    assert!(rt; left(THIRD_BODY, Tear::Fill(1))? == SECOND_ALONE);
-    assert!(rt; left(Stop::Sync(6), Tear::Keep)? == SECOND_ALONE);
-    assert!(rt; left(Stop::Sync(6), Tear::Fill(1))? == SECOND_ALONE);
-    assert!(rt; left(THIRD_GATE, Tear::Keep)? == SECOND_ALONE);
-    assert!(rt; left(THIRD_GATE, Tear::Fill(1))? == THIRD);
-    assert!(rt; left(Stop::Sync(7), Tear::Keep)? == THIRD);
-    assert!(rt; left(Stop::Sync(7), Tear::Old)? == SECOND_ALONE);
+    let rows = [
+        (CLOSING, Tear::Keep, SECOND),
+        (CLOSING, Tear::Fill(1), SECOND),
+        (CLOSING, Tear::Fill(9), SECOND_ALONE),
+        (Stop::Sync(5), Tear::Keep, SECOND_ALONE),
+        (Stop::Sync(5), Tear::Old, SECOND),
+        (THIRD_BODY, Tear::Fill(1), SECOND_ALONE),
+        (Stop::Sync(6), Tear::Keep, SECOND_ALONE),
+        (Stop::Sync(6), Tear::Fill(1), SECOND_ALONE),
+        (THIRD_GATE, Tear::Keep, SECOND_ALONE),
+        (THIRD_GATE, Tear::Fill(1), THIRD),
+        (Stop::Sync(7), Tear::Keep, THIRD),
+        (Stop::Sync(7), Tear::Old, SECOND_ALONE),
+    ];
+    assert_eq!(rt; first_unmet(rt.alloc(), rows.as_slice())?, None);
     Ok(())
 }

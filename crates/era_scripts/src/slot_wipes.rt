@@ -22,36 +22,60 @@ fn left_by(alloc: Global, call: DiskCall, number: u64, tear: Tear) -> Result<Opt
     Ok(Some(opening_of(alloc, disk)))
 }
 
+/// The first of the rows whose crash leaves anything else than it says, or `None`.
+fn first_unmet(
+    alloc: Global,
+    rows: &[(DiskCall, u64, Tear, Seen)],
+) -> Result<Option<(u64, Tear)>, Fail> {
+    for (call, number, tear, seen) in rows {
+        if left_by(alloc, *call, *number, *tear)? != Some(*seen) {
+            return Ok(Some((*number, *tear)));
+        }
+    }
+    Ok(None)
+}
+
 #[test]
 fn a_wiped_disk_is_blank(rt: HostRuntime) -> Result<(), Fail> {
-    let left = |tear| left_by(rt.alloc(), DiskCall::Write, 6, tear);
-    assert!(rt; left(Tear::Keep)? == Some(Seen::Blank));
-    assert!(rt; left(Tear::Old)? == Some(Seen::Blank));
-    assert!(rt; left(Tear::Fill(1))? == Some(Seen::Blank));
+    let rows = [
+        (DiskCall::Write, 6, Tear::Keep, Seen::Blank),
+        (DiskCall::Write, 6, Tear::Old, Seen::Blank),
+        (DiskCall::Write, 6, Tear::Fill(1), Seen::Blank),
+    ];
+    assert_eq!(rt; first_unmet(rt.alloc(), rows.as_slice())?, None);
     Ok(())
 }
 
 #[test]
 fn a_crash_at_a_sync_of_a_wiping_leaves_the_gate_named_last(rt: HostRuntime) -> Result<(), Fail> {
-    let left = |number, tear| left_by(rt.alloc(), DiskCall::Sync, number, tear);
-    assert!(rt; left(5, Tear::Keep)? == Some(SECOND) && left(5, Tear::Old)? == Some(SECOND));
-    assert!(rt; left(5, Tear::Fill(1))? == Some(SECOND));
-    assert!(rt; left(5, Tear::Fill(9))? == Some(SECOND));
-    assert!(rt; left(6, Tear::Keep)? == Some(FIRST) && left(6, Tear::Old)? == Some(SECOND));
-    assert!(rt; left(6, Tear::Fill(1))? == Some(SECOND));
-    assert!(rt; left(6, Tear::Fill(9))? == Some(FIRST));
-    assert!(rt; left(7, Tear::Keep)? == Some(Seen::Blank) && left(7, Tear::Old)? == Some(FIRST));
-    assert!(rt; left(7, Tear::Fill(1))? == Some(FIRST));
-    assert!(rt; left(7, Tear::Fill(9))? == Some(Seen::Blank));
+    let rows = [
+        (DiskCall::Sync, 5, Tear::Keep, SECOND),
+        (DiskCall::Sync, 5, Tear::Old, SECOND),
+        (DiskCall::Sync, 5, Tear::Fill(1), SECOND),
+        (DiskCall::Sync, 5, Tear::Fill(9), SECOND),
+        (DiskCall::Sync, 6, Tear::Keep, FIRST),
+        (DiskCall::Sync, 6, Tear::Old, SECOND),
+        (DiskCall::Sync, 6, Tear::Fill(1), SECOND),
+        (DiskCall::Sync, 6, Tear::Fill(9), FIRST),
+        (DiskCall::Sync, 7, Tear::Keep, Seen::Blank),
+        (DiskCall::Sync, 7, Tear::Old, FIRST),
+        (DiskCall::Sync, 7, Tear::Fill(1), FIRST),
+        (DiskCall::Sync, 7, Tear::Fill(9), Seen::Blank),
+    ];
+    assert_eq!(rt; first_unmet(rt.alloc(), rows.as_slice())?, None);
     Ok(())
 }
 
 #[test]
 fn a_crash_at_a_write_of_a_wiping_leaves_the_gate_named_last(rt: HostRuntime) -> Result<(), Fail> {
-    let left = |number, tear| left_by(rt.alloc(), DiskCall::Write, number, tear);
-    assert!(rt; left(4, Tear::Keep)? == Some(SECOND) && left(4, Tear::Old)? == Some(SECOND));
-    assert!(rt; left(4, Tear::Fill(9))? == Some(FIRST));
-    assert!(rt; left(5, Tear::Keep)? == Some(FIRST) && left(5, Tear::Old)? == Some(FIRST));
-    assert!(rt; left(5, Tear::Fill(9))? == Some(Seen::Blank));
+    let rows = [
+        (DiskCall::Write, 4, Tear::Keep, SECOND),
+        (DiskCall::Write, 4, Tear::Old, SECOND),
+        (DiskCall::Write, 4, Tear::Fill(9), FIRST),
+        (DiskCall::Write, 5, Tear::Keep, FIRST),
+        (DiskCall::Write, 5, Tear::Old, FIRST),
+        (DiskCall::Write, 5, Tear::Fill(9), Seen::Blank),
+    ];
+    assert_eq!(rt; first_unmet(rt.alloc(), rows.as_slice())?, None);
     Ok(())
 }
