@@ -1,5 +1,5 @@
 -- Why a call on something outside may fail: its count of faults rose. The counts of all traits are `u64`s that stay at their greatest value.
-use Rattle.std.specs.Prelude.{◌≡◌, ℕ, ◌+◌, ◌-◌, ◌<◌, ◌≤◌, ◌^◌, min, Result, OnOk, OnErr}
+use Rattle.std.specs.Prelude.{◌≡◌, ℕ, ◌+◌, ◌-◌, ◌<◌, ◌≤◌, ◌^◌, min, Result, OnOk, OnErr, IfErr}
 
 -- The count of faults rose, or stands at the greatest value of a `u64`.
 abbrev pub Rose : ℕ → ℕ → Type 0
@@ -15,3 +15,8 @@ pub record HasCause {T E : Type 0} (before now : ℕ) (result : Result T E) : Ty
   pub later : before ≤ now
   pub failed : OnErr result (Rose before now)
   pub kept : OnOk result (now ≡ before)
+
+-- An error is the count of faults, which rose; without an error none came.
+pub record HasCount {T : Type 0} (before now : ℕ) (result : Result T ℕ) : Type 0 where
+  pub cause : HasCause before now result
+  pub count : IfErr result (λ count. count ≡ now)

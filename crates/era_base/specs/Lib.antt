@@ -7,3 +7,6 @@ pub mod CrashLaws
 pub mod Disk
 pub mod Streams
 pub mod Bay
+pub mod Calls
+pub mod Flags
+pub mod Bits

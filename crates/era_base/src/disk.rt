@@ -35,7 +35,8 @@ pub trait Disk {
     /// Reads whole sectors from sector `first` on.
     fn read(&mut self, first: u64, into: &mut [u8]) -> Result<(), Failed>
         requires { LiesOn (sectors self.old) first (length into.old) }
-        ensures told { tells ≡ true → Reads first into.new result (history self.old) (history self.new) }
+        ensures told { tells ≡ true
+            → Reads first into.new result (history self.old) (history self.new) }
         ensures size { sectors self.new ≡ sectors self.old }
         ensures place { place self.new ≡ place self.old }
         ensures cause { HasCause (faults self.old) (faults self.new) result };
@@ -44,7 +45,8 @@ pub trait Disk {
     /// a read of them may give any bytes, until they are written again.
     fn write(&mut self, first: u64, bytes: &[u8]) -> Result<(), Failed>
         requires { LiesOn (sectors self.old) first (length bytes.now) }
-        ensures told { tells ≡ true → Writes first bytes.now result (history self.old) (history self.new) }
+        ensures told { tells ≡ true
+            → Writes first bytes.now result (history self.old) (history self.new) }
         ensures size { sectors self.new ≡ sectors self.old }
         ensures place { place self.new ≡ place self.old }
         ensures cause { HasCause (faults self.old) (faults self.new) result };

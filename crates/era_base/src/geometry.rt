@@ -2,7 +2,9 @@
 
 ghost use Rattle.std.specs.Prelude.{◌≡◌, ◌<◌, ◌≤◌, ◌+◌, ◌*◌, ◌↔◌, ℕ, IfOk, IfSome, IsErrOf};
 ghost use Rattle.era_base.specs.Geometry.{IsBlockSize, blocks_of, array_pages_of, bit_pages_of, root_pages_of, need_of, span_of, place_at};
+ghost use Rattle.era_base.specs.declared.limits.TheConstants.{MOST_BLOCKS};
 
+use crate::limits::MOST_BLOCKS;
 use thiserror::Error;
 
 /// Why numbers are no geometry, in the order of the tests.
@@ -26,20 +28,19 @@ pub struct Geometry {
     pub block_sectors: u32,
     pub ghost some: { 0 < sectors },
     pub ghost block_size: { IsBlockSize block_sectors },
-    pub ghost limited: { blocks_of sectors block_sectors ≤ 65536 },
+    pub ghost limited: { blocks_of sectors block_sectors ≤ MOST_BLOCKS },
 }
 
 impl Geometry {
-    /// The greatest number of blocks of an origin.
-    pub const MOST_BLOCKS: u64 = 65_536;
-
     /// An origin of `sectors` sectors in blocks of `block_sectors` sectors. It takes no memory.
     pub fn new(sectors: u64, block_sectors: u64) -> Result<Geometry, GeomError>
         ensures ok { IfOk result (λ g. (g.sectors ≡ sectors) × (g.block_sectors ≡ block_sectors)) }
         ensures block_size { IsErrOf result GeomError.BadBlockSize ↔ ¬ IsBlockSize block_sectors }
-        ensures none { IsErrOf result GeomError.NoBlocks ↔ (IsBlockSize block_sectors × (sectors ≡ 0)) }
+        ensures none { IsErrOf result GeomError.NoBlocks
+            ↔ (IsBlockSize block_sectors × (sectors ≡ 0)) }
         ensures many { (count : ℕ) → IsErrOf result (GeomError.TooManyBlocks count)
-            ↔ (IsBlockSize block_sectors × (count ≡ blocks_of sectors block_sectors) × (65536 < count)) }
+            ↔ (IsBlockSize block_sectors × (count ≡ blocks_of sectors block_sectors)
+            × (MOST_BLOCKS < count)) }
     {
         if block_sectors % 8 != 0 || block_sectors < 8 || block_sectors > 128 {
             return Err(GeomError::BadBlockSize);
@@ -48,7 +49,7 @@ impl Geometry {
             return Err(GeomError::NoBlocks);
         }
         let blocks = sectors.div_ceil(block_sectors);
-        if blocks > Geometry::MOST_BLOCKS {
+        if blocks > u64::from(MOST_BLOCKS) {
             return Err(GeomError::TooManyBlocks(blocks));
         }
         Ok(Geometry {
@@ -74,7 +75,7 @@ impl Geometry {
     /// The number of blocks, from 1 to 65,536.
     pub fn blocks(&self) -> u32
         ensures value { result ≡ blocks_of self.now.sectors self.now.block_sectors }
-        ensures range { (0 < result) × (result ≤ 65536) }
+        ensures range { (0 < result) × (result ≤ MOST_BLOCKS) }
     {
         self.sectors.div_ceil(u64::from(self.block_sectors)) as u32
     }
@@ -123,9 +124,12 @@ impl Geometry {
     /// sector. `None` exactly where `count` is 0, a sector lies past the end, or they lie in more than one block.
     pub fn place_of(&self, sector: u64, count: u64) -> Option<(u32, u32)>
         ensures value { result ≡ place_at self.now.sectors self.now.block_sectors sector count }
-        ensures block { IfSome result (λ place. place.0 < blocks_of self.now.sectors self.now.block_sectors) }
-        ensures sector { IfSome result (λ place. place.0 * self.now.block_sectors + place.1 ≡ sector) }
-        ensures within { IfSome result (λ place. (place.1 + count ≤ self.now.block_sectors) × (sector + count ≤ self.now.sectors)) }
+        ensures block { IfSome result (λ place.
+            place.0 < blocks_of self.now.sectors self.now.block_sectors) }
+        ensures sector { IfSome result (λ place.
+            place.0 * self.now.block_sectors + place.1 ≡ sector) }
+        ensures within { IfSome result (λ place.
+            (place.1 + count ≤ self.now.block_sectors) × (sector + count ≤ self.now.sectors)) }
     {
         let size = u64::from(self.block_sectors);
         if count == 0 || sector >= self.sectors || count > self.sectors - sector {

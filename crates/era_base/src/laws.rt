@@ -20,19 +20,24 @@ pub fn disk_as_it_reads_is_an_image()
 pub fn images_of_past_moments_stay()
     ensures none { (history : History) → Continues history history }
     ensures call { (old new : History) → Stepped old new → Continues old new }
-    ensures calls { (old mid new : History) → Continues old mid → Continues mid new → Continues old new }
-    ensures images { (old new : History) (first last : ℕ) (image : List ℕ) → Continues old new → last ≤ clock old
+    ensures calls { (old mid new : History)
+        → Continues old mid → Continues mid new → Continues old new }
+    ensures images { (old new : History) (first last : ℕ) (image : List ℕ)
+        → Continues old new → last ≤ clock old
         → IsImageBetween new first last image ↔ IsImageBetween old first last image }
 {}
 
 /// A further call adds the images of the state after it to those from a moment on, and no others.
 pub fn call_adds_its_images()
     ensures now { (history : History) (image : List ℕ)
-        → IsImageBetween history (clock history) (clock history) image ↔ IsCrashImage history.now image }
-    ensures call { (old new : History) (first : ℕ) (image : List ℕ) → Stepped old new → first ≤ clock old
+        → IsImageBetween history (clock history) (clock history) image
+        ↔ IsCrashImage history.now image }
+    ensures call { (old new : History) (first : ℕ) (image : List ℕ)
+        → Stepped old new → first ≤ clock old
         → IsImageBetween new first (clock new) image
         ↔ (IsImageBetween old first (clock old) image ⊎ IsCrashImage new.now image) }
-    ensures joined { (history : History) (first mid last : ℕ) (image : List ℕ) → first ≤ mid → mid ≤ last
+    ensures joined { (history : History) (first mid last : ℕ) (image : List ℕ)
+        → first ≤ mid → mid ≤ last
         → IsImageBetween history first last image
         ↔ (IsImageBetween history first mid image ⊎ IsImageBetween history mid last image) }
 {}
@@ -47,7 +52,8 @@ pub fn calls_leave_the_rest()
         → Synced before after → SameOutside [] before after }
     ensures none { (history : History) → Went (SameOutside []) history history }
     ensures call { (old mid new : History) (ranges : List ByteRange) (range : ByteRange)
-        → Went (SameOutside ranges) old mid → Stepped mid new → SameOutside (range ∷ []) mid.now new.now
+        → Went (SameOutside ranges) old mid → Stepped mid new
+        → SameOutside (range ∷ []) mid.now new.now
         → Went (SameOutside (range ∷ ranges)) old new }
     ensures quiet { (old mid new : History) (ranges : List ByteRange)
         → Went (SameOutside ranges) old mid → Stepped mid new → SameOutside [] mid.now new.now
@@ -59,11 +65,13 @@ pub fn calls_leave_the_rest()
 
 /// From a sync that answered Ok on, every image has what was read at it outside the ranges written since.
 pub fn synced_bytes_survive()
-    ensures kept { (before synced new : History) (ranges : List ByteRange) (image : List ℕ) (offset : ℕ)
+    ensures kept { (before synced new : History)
+        (ranges : List ByteRange) (image : List ℕ) (offset : ℕ)
         → Synced before.now synced.now → Went (SameOutside ranges) synced new
         → IsImageBetween new (clock synced) (clock new) image → IsOutside ranges offset
         → slice_index image offset ≡ slice_index synced.now.seen offset }
-    ensures part { (before synced new : History) (ranges : List ByteRange) (image : List ℕ) (at count : ℕ)
+    ensures part { (before synced new : History)
+        (ranges : List ByteRange) (image : List ℕ) (at count : ℕ)
         → Synced before.now synced.now → Went (SameOutside ranges) synced new
         → IsImageBetween new (clock synced) (clock new) image
         → ((offset : ℕ) → at ≤ offset → offset < at + count → IsOutside ranges offset)

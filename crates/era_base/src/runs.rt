@@ -1,9 +1,10 @@
 //! Lists of blocks, as runs.
 
-ghost use Rattle.std.specs.Prelude.{◌≡◌, ◌+◌, ◌<◌, ◌≤◌, ℕ, List, [], ◌∷◌, ◌++◌, OnOk, OnErr};
-ghost use Rattle.era_base.specs.Runs.{AreRuns, EndsBefore};
+ghost use Rattle.std.specs.Prelude.{◌≡◌, ◌+◌, ◌<◌, ◌≤◌, ℕ, List, [], ◌∷◌, ◌++◌, IfOk, OnOk, OnErr};
+ghost use Rattle.era_base.specs.Runs.{AreRuns, EndsBefore, ListExactly};
 
 use crate::faults::Memory;
+use crate::run_source::RunSource;
 use std::alloc::Global;
 use std::marker::Model;
 
@@ -29,6 +30,19 @@ impl Runs {
         Runs {
             runs: Vec::new(alloc),
         }
+    }
+
+    /// The listed blocks of a source. It takes memory for the runs alone.
+    pub fn of<S: RunSource>(alloc: Global, source: &S) -> Result<Runs, Memory>
+        ensures { IfOk result (λ runs. ListExactly runs (S.has source.now)) }
+    {
+        let mut runs = Runs::new(alloc);
+        let mut from = 0;
+        while let Some((first, last)) = source.next_run(from) {
+            runs.push(first, last)?;
+            from = last + 1;
+        }
+        Ok(runs)
     }
 
     /// Adds the run of the blocks `first` to `last`, both included, behind the others. It doesn't touch the last one.
