@@ -7,3 +7,6 @@ pub mod RootParts
 pub mod RootRead
 pub mod RootWritten
 pub mod PageBytes
+pub mod Numbering
+pub mod FirstKind
+pub mod HeldRoot

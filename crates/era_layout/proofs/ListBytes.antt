@@ -2,7 +2,7 @@
 use Rattle.std.proofs.Common.{◌≡◌, ℕ, zero, suc, ◌+◌, ◌*◌, ◌^◌, ◌<◌, ◌≤◌, List, [], ◌∷◌, ◌++◌, length, drop, refl, sym, ap, ◌∙◌, append_assoc, arith}
 use Rattle.std.specs.List.{AllByRecursion}
 use Rattle.std.proofs.lemmas.List.{drop-drop, drop_at}
-use Rattle.era_layout.specs.declared.archived.Archived.{Archived}
+use Rattle.era_layout.specs.declared.archive.Archived.{Archived}
 use Rattle.era_layout.specs.Numbers.{AreBytes, u32_bytes, u64_bytes, u32s_bytes, u32_at, u64_at, u32s_at}
 use Rattle.era_layout.specs.Root.{archive_bytes}
 use Rattle.era_layout.specs.Damage.{set_size, sets_at}

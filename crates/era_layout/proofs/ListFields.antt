@@ -1,6 +1,6 @@
 -- Lists of numbers and of archived sets in bytes, one element at a time.
 use Rattle.std.proofs.Common.{◌≡◌, ℕ, zero, suc, ◌+◌, ◌*◌, ◌<◌, List, [], ◌∷◌, ◌++◌, length, refl, sym, ap, subst, arith}
-use Rattle.era_layout.specs.declared.archived.Archived.{Archived}
+use Rattle.era_layout.specs.declared.archive.Archived.{Archived}
 use Rattle.era_layout.specs.Numbers.{u32_at, u32s_at}
 use Rattle.era_layout.specs.Root.{EraOrder}
 use Rattle.era_layout.specs.Damage.{set_size, sets_at}

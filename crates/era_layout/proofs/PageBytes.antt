@@ -4,7 +4,8 @@ use Rattle.std.specs.Int.{bit_at}
 use Rattle.std.proofs.lemmas.List.{append-nil, drop_all, ext_get_or}
 use Rattle.std.proofs.lemmas.Nat.Bits.{bit_at-lt, same_from_bits_below}
 use Rattle.era_layout.specs.Numbers.{AreBytes, u32s_bytes, u32_at, u32s_at}
-use Rattle.era_layout.specs.Pages.{bit_of, entry_at, flag_at}
+use Rattle.era_base.specs.Bits.{bit_of}
+use Rattle.era_layout.specs.Pages.{entry_at, flag_at}
 use Rattle.era_layout.proofs.ListBytes.{u32s_split}
 
 same_numbers : (one other : List ℕ) (offset count : ℕ) → ((index : ℕ) → index < count → u32_at one (offset + 4 * index) ≡ u32_at other (offset + 4 * index)) → u32s_at one offset count ≡ u32s_at other offset count

@@ -7,7 +7,8 @@ use Rattle.std.proofs.lemmas.List.{get_or-take, get_or-drop, length-take, get_or
 use Rattle.std.proofs.lemmas.Nat.{and_mask, shr-shr}
 use Rattle.era_base.specs.Bytes.{part}
 use Rattle.era_layout.specs.Numbers.{u32_bytes, u64_bytes, u32s_bytes, u64s_bytes, u32_at}
-use Rattle.era_layout.specs.Pages.{bit_of, flag_at, bit_of_words}
+use Rattle.era_base.specs.Bits.{bit_of, bit_of_words}
+use Rattle.era_layout.specs.Pages.{flag_at}
 use Rattle.era_layout.proofs.NumberBytes.{length-u32_bytes, length-u64_bytes, u32_at-append, u32_at-front}
 
 zeros_at : (count index : ℕ) → get_or {A = ℕ} (replicate count 0) index 0 ≡ 0

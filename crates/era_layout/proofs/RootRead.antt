@@ -6,7 +6,7 @@ use Rattle.era_base.specs.Bytes.{part}
 use Rattle.era_base.specs.Geometry.{array_pages_of, bit_pages_of}
 use Rattle.era_layout.specs.Numbers.{AreBytes, u32_bytes, u64_bytes, u32s_bytes, u32_at}
 use Rattle.era_layout.specs.Root.{magic, held_number, head_bytes, lists_bytes, archive_bytes, root_bytes, IsValidRoot}
-use Rattle.era_layout.specs.Damage.{set_size, sets_at, archive_offset, blocks_at, fields_with, fields_at, AreZeros, Passes, root_kinds, NoneApplies}
+use Rattle.era_layout.specs.Damage.{set_size, sets_at, archive_offset, blocks_of_bytes, fields_with, fields_at, AreZeros, Passes, root_kinds, NoneApplies}
 use Rattle.era_layout.proofs.NumberBytes.{u32_split, u64_split, u32_at_below, u64_at_below}
 use Rattle.era_layout.proofs.ListFields.{length-u32s_at, length-sets_at}
 use Rattle.era_layout.proofs.ListBytes.{u32s_split, sets_split}
@@ -63,7 +63,7 @@ bytes_again bytes size fits none =
     let geometry = none.1.1.0 in
     let order = none.1.1.1.1.1.0 in
     let tail = none.1.1.1.1.1.1.1.1.0 in
-    root_read bytes (array_pages_of (blocks_at bytes)) (bit_pages_of (blocks_at bytes)) size fits (array_is_small (blocks_at bytes) geometry.limited) (width_is_small (blocks_at bytes) geometry.limited) order.count
+    root_read bytes (array_pages_of (blocks_of_bytes bytes)) (bit_pages_of (blocks_of_bytes bytes)) size fits (array_is_small (blocks_of_bytes bytes) geometry.limited) (width_is_small (blocks_of_bytes bytes) geometry.limited) order.count
     (record { magic = none.0; version = none.1.0; held = none.1.1.1.1.0; gap = tail.gap }) tail.rest
 
 -- bytes without damage say a valid root
@@ -72,15 +72,15 @@ unfolding Passes
 is_valid bytes fits none =
     let geometry = none.1.1.0 in
     let order = none.1.1.1.1.1.0 in
-    let width = bit_pages_of (blocks_at bytes) in
-    let offset = archive_offset (array_pages_of (blocks_at bytes)) width in
+    let width = bit_pages_of (blocks_of_bytes bytes) in
+    let offset = archive_offset (array_pages_of (blocks_of_bytes bytes)) width in
     record {
       length_fits = u64_at_below bytes 16 fits;
       geometry = geometry;
       era = none.1.1.1.0;
       era_fits = u32_at_below bytes 24 fits;
-      array = length-u32s_at bytes 40 (array_pages_of (blocks_at bytes));
-      current = length-u32s_at bytes (40 + 4 * array_pages_of (blocks_at bytes)) width;
+      array = length-u32s_at bytes 40 (array_pages_of (blocks_of_bytes bytes));
+      current = length-u32s_at bytes (40 + 4 * array_pages_of (blocks_of_bytes bytes)) width;
       count = rw (length-sets_at bytes width offset (u32_at bytes 32)) order.count;
       sets = sets_have_width bytes width offset (u32_at bytes 32);
       order = order.order;

@@ -5,10 +5,10 @@ use Rattle.std.proofs.lemmas.List.{take_at, length-replicate, get_or-replicate}
 use Rattle.std.proofs.lemmas.Nat.{mul-le}
 use Rattle.era_base.specs.Bytes.{part}
 use Rattle.era_base.specs.Geometry.{blocks_of, array_pages_of, bit_pages_of, need_of}
-use Rattle.era_layout.specs.declared.archived.Archived.{Archived}
+use Rattle.era_layout.specs.declared.archive.Archived.{Archived}
 use Rattle.era_layout.specs.Numbers.{u32_bytes, u64_bytes, u32s_bytes, u32_at, u64_at, u32s_at}
 use Rattle.era_layout.specs.Root.{RootFields, magic, held_number, head_bytes, lists_bytes, archive_bytes, root_bytes, EraOrder, archive_pages, pages_of, AreInImage, AreDifferent, IsGeometry, IsValidRoot}
-use Rattle.era_layout.specs.Damage.{set_size, sets_at, archive_offset, blocks_at, fields_with, fields_at, AreZeros, Passes, root_kinds, NoneApplies}
+use Rattle.era_layout.specs.Damage.{set_size, sets_at, archive_offset, blocks_of_bytes, fields_with, fields_at, AreZeros, Passes, root_kinds, NoneApplies}
 use Rattle.era_layout.proofs.NumberBytes.{length-u32_bytes, length-u64_bytes, length-u32s_bytes}
 use Rattle.era_layout.proofs.ListBytes.{behind, u32_stands, u64_stands, u32s_stand, SetFits, sets_stand}
 use Rattle.era_layout.proofs.RootParts.{regrouped, array_is_small, width_is_small}
@@ -141,27 +141,27 @@ held_values false = inl refl
 -- where a root stands, just that root is read
 pub read_back : (root : RootFields) (bytes : List ℕ) → IsValidRoot root → Stands root bytes → fields_at bytes ≡ root
 read_back root bytes valid s =
-    let blocks : blocks_at bytes ≡ blocks_of root.sectors root.block_sectors = rw (s.sectors, s.block_sectors) refl in
-    let array : array_pages_of (blocks_at bytes) ≡ length root.array = ap array_pages_of blocks ∙ sym valid.array in
-    let width : bit_pages_of (blocks_at bytes) ≡ length root.current = ap bit_pages_of blocks ∙ sym valid.current in
+    let blocks : blocks_of_bytes bytes ≡ blocks_of root.sectors root.block_sectors = rw (s.sectors, s.block_sectors) refl in
+    let array : array_pages_of (blocks_of_bytes bytes) ≡ length root.array = ap array_pages_of blocks ∙ sym valid.array in
+    let width : bit_pages_of (blocks_of_bytes bytes) ≡ length root.current = ap bit_pages_of blocks ∙ sym valid.current in
     let here = length root.array in
     let wide = length root.current in
     let with_lengths : fields_with bytes here wide ≡ root = same_fields (fields_with bytes here wide) root s.sectors s.block_sectors s.era (ap (λ (n : ℕ). eqb n 2) s.held ∙ held_back root.held) s.array s.current
     (ap (λ (n : ℕ). sets_at bytes wide (archive_offset here wide) n) s.count ∙ s.archive) in
-    ap (λ (n : ℕ). fields_with bytes n (bit_pages_of (blocks_at bytes))) array ∙ ap (λ (n : ℕ). fields_with bytes here n) width ∙ with_lengths
+    ap (λ (n : ℕ). fields_with bytes n (bit_pages_of (blocks_of_bytes bytes))) array ∙ ap (λ (n : ℕ). fields_with bytes here n) width ∙ with_lengths
 
 -- where a valid root stands, no kind of damage applies
 pub none_applies : (root : RootFields) (bytes : List ℕ) → IsValidRoot root → Stands root bytes → NoneApplies bytes root_kinds
 unfolding Passes
 none_applies root bytes valid s =
-    let blocks : blocks_at bytes ≡ blocks_of root.sectors root.block_sectors = rw (s.sectors, s.block_sectors) refl in
-    let array : array_pages_of (blocks_at bytes) ≡ length root.array = ap array_pages_of blocks ∙ sym valid.array in
-    let width : bit_pages_of (blocks_at bytes) ≡ length root.current = ap bit_pages_of blocks ∙ sym valid.current in
+    let blocks : blocks_of_bytes bytes ≡ blocks_of root.sectors root.block_sectors = rw (s.sectors, s.block_sectors) refl in
+    let array : array_pages_of (blocks_of_bytes bytes) ≡ length root.array = ap array_pages_of blocks ∙ sym valid.array in
+    let width : bit_pages_of (blocks_of_bytes bytes) ≡ length root.current = ap bit_pages_of blocks ∙ sym valid.current in
     let same : fields_at bytes ≡ root = read_back root bytes valid s in
     let pages : pages_of (fields_at bytes) ≡ pages_of root = ap pages_of same in
     let sets : (fields_at bytes).archive ≡ root.archive = ap (λ (r : RootFields). r.archive) same in
     let geometry : IsGeometry (u64_at bytes 16) (u32_at bytes 12) = rw (s.sectors, s.block_sectors) valid.geometry in
-    let tail : AreZeros (drop (archive_offset (array_pages_of (blocks_at bytes)) (bit_pages_of (blocks_at bytes)) + u32_at bytes 32 * set_size (bit_pages_of (blocks_at bytes))) bytes) = rw (array, width, s.count) s.tail in (
+    let tail : AreZeros (drop (archive_offset (array_pages_of (blocks_of_bytes bytes)) (bit_pages_of (blocks_of_bytes bytes)) + u32_at bytes 32 * set_size (bit_pages_of (blocks_of_bytes bytes))) bytes) = rw (array, width, s.count) s.tail in (
       s.magic,
       (
         s.version,
@@ -174,7 +174,7 @@ none_applies root bytes valid s =
               (
                 record { count = rw s.count valid.count; order = subst (λ (list : List Archived). EraOrder 0 (u32_at bytes 24) list) (sym sets) (rw s.era valid.order) },
                 (
-                  subst (λ (list : List ℕ). AreInImage (blocks_at bytes) list) (sym pages) (subst (λ (n : ℕ). AreInImage n (pages_of root)) (sym blocks) valid.range),
+                  subst (λ (list : List ℕ). AreInImage (blocks_of_bytes bytes) list) (sym pages) (subst (λ (n : ℕ). AreInImage n (pages_of root)) (sym blocks) valid.range),
                   (subst (λ (list : List ℕ). AreDifferent list) (sym pages) valid.different, (record { gap = s.gap; rest = tail }, tt)),
                 ),
               ),

@@ -1,8 +1,9 @@
 -- What a root's bytes say field by field, and the kinds of damage in their order. The offsets stand in docs/FORMAT.md, "A root".
-use Rattle.std.specs.Prelude.{ℕ, zero, suc, ◌≡◌, ◌+◌, ◌*◌, ◌<◌, ◌≤◌, ◌==◌, ◌⊎◌, List, [], ◌∷◌, drop, EachIndex, slice_index}
+use Rattle.std.specs.Prelude.{ℕ, zero, suc, ◌≡◌, ◌+◌, ◌*◌, ◌<◌, ◌≤◌, ◌==◌, ◌⊎◌, Bool, true, false, List, [], ◌∷◌, drop, EachIndex, slice_index}
 use Rattle.era_base.specs.Bytes.{part}
+use Rattle.era_base.specs.declared.limits.TheConstants.{MOST_SETS}
 use Rattle.era_base.specs.Geometry.{blocks_of, array_pages_of, bit_pages_of}
-use Rattle.era_layout.specs.declared.archived.Archived.{Archived}
+use Rattle.era_layout.specs.declared.archive.Archived.{Archived}
 use Rattle.era_layout.specs.declared.damage.RootError.{RootError}
 use Rattle.era_layout.specs.declared.damage.RootError.TheVariants.{BadMagic, BadVersion, BadGeometry, BadEra, BadHeld, ArchiveOrder, PageRange, PageTwice, TailNotZero, Memory}
 use Rattle.era_layout.specs.Numbers.{u32_at, u64_at, u32s_at}
@@ -24,8 +25,8 @@ abbrev pub archive_offset : ℕ → ℕ → ℕ
 archive_offset array width = 40 + 4 * array + 4 * width
 
 -- The number of blocks of the geometry in a root's bytes.
-abbrev pub blocks_at : List ℕ → ℕ
-blocks_at bytes = blocks_of (u64_at bytes 16) (u32_at bytes 12)
+abbrev pub blocks_of_bytes : List ℕ → ℕ
+blocks_of_bytes bytes = blocks_of (u64_at bytes 16) (u32_at bytes 12)
 
 -- What a root's bytes say, where the era array takes so many pages and a write set so many.
 abbrev pub fields_with : List ℕ → ℕ → ℕ → RootFields
@@ -41,7 +42,7 @@ fields_with bytes array width = record {
 
 -- What a root's bytes say.
 abbrev pub fields_at : List ℕ → RootFields
-fields_at bytes = fields_with bytes (array_pages_of (blocks_at bytes)) (bit_pages_of (blocks_at bytes))
+fields_at bytes = fields_with bytes (array_pages_of (blocks_of_bytes bytes)) (bit_pages_of (blocks_of_bytes bytes))
 
 -- All bytes are 0.
 abbrev pub AreZeros : List ℕ → Type 0
@@ -52,9 +53,9 @@ pub record IsTailZero (bytes : List ℕ) (array width : ℕ) : Type 0 where
   pub gap : u32_at bytes 36 ≡ 0
   pub rest : AreZeros (drop (archive_offset array width + u32_at bytes 32 * set_size width) bytes)
 
--- The archived sets are at most sixteen, and their eras are in order.
+-- The archived sets are few enough, and their eras are in order.
 pub record IsArchiveInOrder (bytes : List ℕ) (archive : List Archived) : Type 0 where
-  pub count : u32_at bytes 32 ≤ 16
+  pub count : u32_at bytes 32 ≤ MOST_SETS
   pub order : EraOrder 0 (u32_at bytes 24) archive
 
 -- What bytes have exactly where the kind of damage doesn't apply to them; want of memory is no damage.
@@ -65,9 +66,9 @@ Passes bytes BadGeometry = IsGeometry (u64_at bytes 16) (u32_at bytes 12)
 Passes bytes BadEra = 0 < u32_at bytes 24
 Passes bytes BadHeld = (u32_at bytes 28 ≡ 0) ⊎ (u32_at bytes 28 ≡ 2)
 Passes bytes ArchiveOrder = IsArchiveInOrder bytes (fields_at bytes).archive
-Passes bytes PageRange = AreInImage (blocks_at bytes) (pages_of (fields_at bytes))
+Passes bytes PageRange = AreInImage (blocks_of_bytes bytes) (pages_of (fields_at bytes))
 Passes bytes PageTwice = AreDifferent (pages_of (fields_at bytes))
-Passes bytes TailNotZero = IsTailZero bytes (array_pages_of (blocks_at bytes)) (bit_pages_of (blocks_at bytes))
+Passes bytes TailNotZero = IsTailZero bytes (array_pages_of (blocks_of_bytes bytes)) (bit_pages_of (blocks_of_bytes bytes))
 Passes bytes Memory = Unit {0}
 
 -- The kinds of damage of a root, in their order.
@@ -75,13 +76,34 @@ abbrev pub root_kinds : List RootError
 root_kinds =
     BadMagic ∷ BadVersion ∷ BadGeometry ∷ BadEra ∷ BadHeld ∷ ArchiveOrder ∷ PageRange ∷ PageTwice ∷ TailNotZero ∷ []
 
+-- The held field, of a root that may hold a snapshot or of one that may not.
+abbrev pub HeldFieldPasses : Bool → List ℕ → Type 0
+HeldFieldPasses true bytes = Passes bytes BadHeld
+HeldFieldPasses false bytes = u32_at bytes 28 ≡ 0
+
+-- What bytes have exactly where the kind doesn't apply to them, as a root that may hold a snapshot or as one that may not.
+abbrev pub PassesAs : Bool → List ℕ → RootError → Type 0
+PassesAs may_hold bytes BadHeld = HeldFieldPasses may_hold bytes
+PassesAs may_hold bytes kind = Passes bytes kind
+
+-- What bytes have exactly where the kind doesn't apply to them as the held root, which holds no snapshot itself.
+abbrev pub HeldPasses : List ℕ → RootError → Type 0
+HeldPasses bytes kind = PassesAs false bytes kind
+
+-- The kind is the first one of a list of kinds that a test refuses.
+abbrev pub IsFirstOf : (RootError → Type 0) → List RootError → RootError → Type 0
+IsFirstOf Test [] kind = ⊥
+IsFirstOf Test (other ∷ kinds) kind = ((other ≡ kind) × ¬ Test other) ⊎ (Test other × IsFirstOf Test kinds kind)
+
+-- A test refuses no kind of a list.
+abbrev pub NoneAppliesOf : (RootError → Type 0) → List RootError → Type 0
+NoneAppliesOf Test [] = Unit {0}
+NoneAppliesOf Test (kind ∷ kinds) = Test kind × NoneAppliesOf Test kinds
+
 -- The kind is the first one of a list of kinds that applies.
 abbrev pub IsFirst : List ℕ → List RootError → RootError → Type 0
-IsFirst bytes [] kind = ⊥
-IsFirst bytes (other ∷ kinds) kind =
-    ((other ≡ kind) × ¬ Passes bytes other) ⊎ (Passes bytes other × IsFirst bytes kinds kind)
+IsFirst bytes kinds kind = IsFirstOf (Passes bytes) kinds kind
 
 -- No kind of a list applies.
 abbrev pub NoneApplies : List ℕ → List RootError → Type 0
-NoneApplies bytes [] = Unit {0}
-NoneApplies bytes (kind ∷ kinds) = Passes bytes kind × NoneApplies bytes kinds
+NoneApplies bytes kinds = NoneAppliesOf (Passes bytes) kinds

@@ -2,3 +2,4 @@ pub mod Numbers
 pub mod Pages
 pub mod Root
 pub mod Damage
+pub mod Kinds

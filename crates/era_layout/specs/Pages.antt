@@ -1,5 +1,6 @@
 -- Pages of 4,096 bytes: entries of the era array, and bits of a write set. The offsets stand in docs/FORMAT.md, "A page".
-use Rattle.std.specs.Prelude.{◌≡◌, ℕ, Bool, true, false, ◌*◌, ◌/◌, ◌%◌, ◌^◌, ◌<◌, ◌≤◌, ◌==◌, List, slice_index}
+use Rattle.std.specs.Prelude.{◌≡◌, ℕ, Bool, true, false, ◌*◌, ◌/◌, ◌%◌, ◌<◌, ◌≤◌, List, slice_index}
+use Rattle.era_base.specs.Bits.{bit_of}
 use Rattle.era_layout.specs.Numbers.{u32_at, u32s_bytes, u64s_bytes, padded}
 
 -- The page of the era array with these entries, and zeros behind them.
@@ -22,14 +23,6 @@ EntriesUpTo page first limit = (index : ℕ) → first ≤ index → index < 102
 pub record IsArrayPage (page : List ℕ) (entries limit : ℕ) : Type 0 where
   pub end : EntriesUpTo page entries 0
   pub limited : EntriesUpTo page 0 limit
-
--- A bit of a number, counted from the lowest.
-unfoldable pub bit_of : ℕ → ℕ → Bool
-bit_of number index = number / 2 ^ index % 2 == 1
-
--- The bit at an index of a list of words of 64 bits, each from its lowest bit on; past the end it is clear.
-abbrev pub bit_of_words : List ℕ → ℕ → Bool
-bit_of_words words index = bit_of (slice_index words (index / 64)) (index % 64)
 
 -- The page of a write set with the bits of these words, and clear bits behind them.
 abbrev pub bits_page : List ℕ → List ℕ

@@ -1,8 +1,10 @@
 -- A root: what it says, its bytes, and which roots there are. The offsets stand in docs/FORMAT.md, "A root".
 use Rattle.std.specs.Prelude.{ℕ, ◌≡◌, ◌≢◌, ◌^◌, ◌<◌, ◌≤◌, Bool, List, [], ◌∷◌, ◌++◌, length, codes, EachIndex, slice_index, if◌then◌else◌}
 use Rattle.std.specs.List.{flat_map, AllByRecursion}
+use Rattle.era_base.specs.declared.limits.TheConstants.{MOST_BLOCKS, MOST_SETS}
+use Rattle.era_base.specs.Flags.{tabulate}
 use Rattle.era_base.specs.Geometry.{IsBlockSize, blocks_of, array_pages_of, bit_pages_of, need_of}
-use Rattle.era_layout.specs.declared.archived.Archived.{Archived}
+use Rattle.era_layout.specs.declared.archive.Archived.{Archived}
 use Rattle.era_layout.specs.declared.root.Root.{Root}
 use Rattle.era_layout.specs.Numbers.{u32_bytes, u64_bytes, u32s_bytes, padded}
 
@@ -62,7 +64,7 @@ root_bytes root = padded 3576 (head_bytes root ++ lists_bytes root)
 pub record IsGeometry (sectors block_sectors : ℕ) : Type 0 where
   pub some : 0 < sectors
   pub block_size : IsBlockSize block_sectors
-  pub limited : blocks_of sectors block_sectors ≤ 65536
+  pub limited : blocks_of sectors block_sectors ≤ MOST_BLOCKS
 
 -- The eras of the sets ascend strictly from above a floor, and all are below an era.
 abbrev pub EraOrder : ℕ → ℕ → List Archived → Type 0
@@ -81,6 +83,10 @@ pages_of root = root.array ++ root.current ++ archive_pages root.archive
 abbrev pub AreInImage : ℕ → List ℕ → Type 0
 AreInImage blocks pages = EachIndex pages (λ index. (3 ≤ slice_index pages index) × (slice_index pages index < need_of blocks))
 
+-- So many numbers, from a first one on.
+abbrev pub numbers_from : ℕ → ℕ → List ℕ
+numbers_from first count = tabulate first count (λ number. number)
+
 -- No number stands twice.
 abbrev pub AreDifferent : List ℕ → Type 0
 AreDifferent pages =
@@ -94,7 +100,7 @@ pub record IsValidRoot (root : RootFields) : Type 0 where
   pub era_fits : root.era < 2 ^ 32
   pub array : length root.array ≡ array_pages_of (blocks_of root.sectors root.block_sectors)
   pub current : length root.current ≡ bit_pages_of (blocks_of root.sectors root.block_sectors)
-  pub count : length root.archive ≤ 16
+  pub count : length root.archive ≤ MOST_SETS
   pub sets : AllByRecursion (λ set. length set.pages ≡ bit_pages_of (blocks_of root.sectors root.block_sectors)) root.archive
   pub order : EraOrder 0 root.era root.archive
   pub range : AreInImage (blocks_of root.sectors root.block_sectors) (pages_of root)

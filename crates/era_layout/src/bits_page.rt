@@ -2,7 +2,8 @@
 
 ghost use Rattle.std.specs.Prelude.{◌≡◌, ℕ, ◌<◌, ◌≤◌, ◌↔◌, true, length, OnOk, IsErrOf};
 ghost use Rattle.std.specs.Bool.{OnTrue, OnFalse};
-ghost use Rattle.era_layout.specs.Pages.{bits_page, flag_at, bit_of_words, HasFlagFrom, FlagsEndAt};
+ghost use Rattle.era_base.specs.Bits.{bit_of_words};
+ghost use Rattle.era_layout.specs.Pages.{bits_page, flag_at, HasFlagFrom, FlagsEndAt};
 
 use crate::damage::PageError;
 use crate::numbers::{write_u64s, write_zeros};

@@ -1,5 +1,8 @@
 //! How a metadata disk can be damaged.
 
+ghost use Rattle.std.specs.Prelude.{◌≡◌};
+ghost use Rattle.era_layout.specs.Kinds.{damage_of_root, damage_of_page};
+
 /// Why bytes are no root, in the order of the tests, and want of memory.
 #[derive(Clone, Copy, Debug, PartialEq, Eq)]
 pub enum RootError {
@@ -69,4 +72,35 @@ pub enum DamageKind {
     BitPastEnd,
     /// The held root has another geometry than the active one.
     HeldGeometry,
+}
+
+impl DamageKind {
+    /// The damage of a root. Want of memory is none.
+    pub fn of_root(error: RootError) -> Option<DamageKind>
+        ensures { result ≡ damage_of_root error }
+    {
+        match error {
+            RootError::BadMagic => Some(DamageKind::BadMagic),
+            RootError::BadVersion => Some(DamageKind::BadVersion),
+            RootError::BadGeometry => Some(DamageKind::BadGeometry),
+            RootError::BadEra => Some(DamageKind::BadEra),
+            RootError::BadHeld => Some(DamageKind::BadHeld),
+            RootError::ArchiveOrder => Some(DamageKind::ArchiveOrder),
+            RootError::PageRange => Some(DamageKind::PageRange),
+            RootError::PageTwice => Some(DamageKind::PageTwice),
+            RootError::TailNotZero => Some(DamageKind::TailNotZero),
+            RootError::Memory => None,
+        }
+    }
+
+    /// The damage of a page.
+    pub fn of_page(error: PageError) -> DamageKind
+        ensures { result ≡ damage_of_page error }
+    {
+        match error {
+            PageError::EntryPastEnd => DamageKind::EntryPastEnd,
+            PageError::EraFuture => DamageKind::EraFuture,
+            PageError::BitPastEnd => DamageKind::BitPastEnd,
+        }
+    }
 }

@@ -1,9 +1,10 @@
 //! Roots into bytes, from front to back.
 
 ghost use Rattle.std.specs.Prelude.{◌≡◌, ◌+◌, ◌*◌, ◌≤◌, ◌++◌, length, take, All};
+ghost use Rattle.era_base.specs.declared.limits.TheConstants.{MOST_SETS};
 ghost use Rattle.era_layout.specs.Root.{fields_of, head_bytes, archived_bytes, archive_bytes, root_bytes, held_number, IsValidRoot};
 
-use crate::archived::Archived;
+use crate::archive::Archived;
 use crate::numbers::{write_bytes, write_u32, write_u32s, write_u64, write_zeros};
 use crate::offsets::{HELD_BLOCK, LAYOUT, MAGIC};
 use crate::root::Root;
@@ -19,7 +20,7 @@ fn held_field(held: bool) -> u32
 #[tactic(auto, unfolding(crate::specs::Root::magic))]
 fn write_head(into: &mut [u8], root: &Root) -> usize
     requires size { length into.old ≡ 3576 }
-    requires count { length root.now.archive ≤ 16 }
+    requires count { length root.now.archive ≤ MOST_SETS }
     ensures behind { result ≡ 40 }
     ensures front { take 40 into.new ≡ head_bytes (fields_of root.now) }
 {

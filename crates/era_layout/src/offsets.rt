@@ -24,5 +24,3 @@ pub const LISTS: usize = 40;
 pub const LAYOUT: u32 = 1;
 /// The held field of a root that holds a snapshot: the metadata block of the held root.
 pub const HELD_BLOCK: u32 = 2;
-/// The greatest number of archived sets.
-pub const MOST_SETS: u32 = 16;

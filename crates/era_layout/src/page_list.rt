@@ -1,46 +1,19 @@
 //! The numbers of pages.
 
-ghost use Rattle.std.specs.Prelude.{◌≡◌, ℕ, List, [], ◌∷◌, ◌++◌, OnOk, OnErr};
+ghost use Rattle.std.specs.Prelude.{◌≡◌, ◌+◌, ◌≤◌, ◌^◌, length};
+ghost use Rattle.era_layout.specs.Root.{numbers_from};
 
-use era_base::Memory;
-use std::alloc::Global;
-use std::marker::Model;
+use era_base::Items;
 
 /// Metadata blocks in which pages stand, in the order of what the pages hold.
-#[derive(Debug, Drop)]
-pub struct PageList {
-    pages: Vec<u32>,
-}
+pub type PageList = Items<u32>;
 
-impl Model for PageList {
-    ghost Value = { List ℕ };
-
-    ghost view = { λ l. l.pages.items };
-}
-
-impl PageList {
-    /// No pages. It takes no memory.
-    pub fn new(alloc: Global) -> PageList
-        ensures { result ≡ [] }
-    {
-        PageList {
-            pages: Vec::new(alloc),
-        }
-    }
-
-    /// Adds a page behind the others.
-    pub fn push(&mut self, page: u32) -> Result<(), Memory>
-        ensures ok { OnOk result (self.new ≡ self.old ++ page ∷ []) }
-        ensures err { OnErr result (self.new ≡ self.old) }
-    {
-        self.pages.push(page)?;
-        Ok(())
-    }
-
-    /// The pages.
-    pub fn as_slice(&self) -> &[u32]
-        ensures { result.now ≡ self.now }
-    {
-        self.pages.as_slice()
+/// Gives pages the numbers from a first one on, in their order. It takes no memory.
+pub fn renumber(pages: &mut PageList, first: u32)
+    requires { first + length pages.old ≤ 2 ^ 32 }
+    ensures { pages.new ≡ numbers_from first (length pages.old) }
+{
+    for index in 0..pages.len() {
+        pages.set(index, first + index as u32);
     }
 }

@@ -1,6 +1,6 @@
 //! A root: all that one state of the metadata consists of.
 
-use crate::archive_list::ArchiveList;
+use crate::archive::ArchiveList;
 use crate::page_list::PageList;
 use era_base::Geometry;
 

@@ -3,9 +3,11 @@
 ghost use Rattle.std.specs.Prelude.{◌≡◌, ◌+◌, ◌≤◌, length, vec_len, IfOk};
 
 use crate::{
-    PageError, Root, RootError, bit_at, check_array_page, check_bits_page, decode_root,
-    encode_array_page, encode_bits_page, encode_root, era_at,
+    ArchiveList, Archived, DamageKind, PageError, PageList, Root, RootError, bit_at,
+    check_array_page, check_bits_page, check_held_root, check_root, decode_held_root, decode_root,
+    encode_array_page, encode_bits_page, encode_root, era_at, renumber,
 };
+use era_base::{MOST_SETS, Memory};
 use std::alloc::{AllocError, Global};
 use std::test::*;
 
@@ -161,6 +163,111 @@ fn first_damage_is_told(rt: HostRuntime) -> Result<(), Fail> {
             assert_eq!(rt; decode_root(rt.alloc(), &bytes).err(), Some(first.0));
         }
     }
+    Ok(())
+}
+
+/// What to put where in a held root, and the kind that it makes.
+const HELD_DAMAGE: [(RootError, usize, u32); 11] = [
+    (RootError::BadMagic, 4, 0x326b_7369),
+    (RootError::BadVersion, 8, 2),
+    (RootError::BadGeometry, 12, 12),
+    (RootError::BadEra, 24, 0),
+    (RootError::BadHeld, 28, 1),
+    (RootError::BadHeld, 28, 2),
+    (RootError::ArchiveOrder, 32, 17),
+    (RootError::PageRange, 40, 2),
+    (RootError::PageTwice, 60, 4),
+    (RootError::TailNotZero, 36, 0x100),
+    (RootError::TailNotZero, 64, 1),
+];
+
+#[test]
+fn first_damage_of_a_held_root_is_told(rt: HostRuntime) -> Result<(), Fail> {
+    for (index, first) in HELD_DAMAGE.iter().enumerate() {
+        for second in &HELD_DAMAGE[index..] {
+            let mut bytes = two_sets(rt.alloc())?;
+            put(&mut bytes, 28, 0);
+            if second.1 <= ROOT - 4 && first.1 <= ROOT - 4 {
+                put(&mut bytes, second.1, second.2);
+                put(&mut bytes, first.1, first.2);
+            }
+            assert_eq!(rt; check_held_root(&bytes).err(), Some(first.0));
+        }
+    }
+    Ok(())
+}
+
+#[test]
+fn held_root_holds_no_snapshot(rt: HostRuntime) -> Result<(), Fail> {
+    let mut bytes = two_sets(rt.alloc())?;
+    assert!(rt; check_root(&bytes).is_ok());
+    assert_eq!(rt;
+        decode_held_root(rt.alloc(), &bytes).err(),
+        Some(RootError::BadHeld)
+    );
+    put(&mut bytes, 28, 0);
+    let Ok(root) = decode_held_root(rt.alloc(), &bytes) else {
+        return Err("the bytes are a held root".into());
+    };
+    assert!(rt; !root.held && root.era == 5 && root.archive.len() == 2);
+    Ok(())
+}
+
+#[test]
+fn kinds_of_errors(rt: HostRuntime) -> Result<(), Fail> {
+    assert_eq!(rt;
+        DamageKind::of_root(RootError::PageTwice),
+        Some(DamageKind::PageTwice)
+    );
+    assert_eq!(rt; DamageKind::of_root(RootError::Memory), None);
+    assert_eq!(rt;
+        DamageKind::of_page(PageError::EraFuture),
+        DamageKind::EraFuture
+    );
+    Ok(())
+}
+
+/// Sets of eras 1 to 16 with two pages each, from page 3 on.
+fn sixteen_sets(alloc: Global) -> Result<ArchiveList, Memory>
+    ensures { IfOk result (λ sets. length sets ≡ 16) }
+{
+    let mut sets = ArchiveList::with_room(alloc)?;
+    for index in 0..MOST_SETS {
+        let mut pages = PageList::repeat(alloc, 0, 2)?;
+        renumber(&mut pages, 3 + 2 * index);
+        sets.push_reserved(Archived {
+            era: 1 + index,
+            pages,
+        });
+    }
+    Ok(sets)
+}
+
+#[test]
+fn oldest_set_hands_its_pages_on(rt: HostRuntime) -> Result<(), Fail> {
+    let mut sets = sixteen_sets(rt.alloc())?;
+    let mut set = sets.take_first();
+    assert!(rt; set.era == 1 && set.pages.as_slice() == [3, 4].as_slice());
+    set.era = 17;
+    renumber(&mut set.pages, 35);
+    sets.push_reserved(set);
+    let first = &sets.as_slice()[0];
+    assert!(rt; first.era == 2 && first.pages.as_slice() == [5, 6].as_slice());
+    let last = &sets.as_slice()[15];
+    assert!(rt; last.era == 17 && last.pages.as_slice() == [35, 36].as_slice());
+    Ok(())
+}
+
+#[test]
+fn pages_of_a_list(rt: HostRuntime) -> Result<(), Fail> {
+    let mut pages = PageList::new(rt.alloc());
+    assert!(rt; pages.is_empty());
+    pages.push(7)?;
+    pages.push(9)?;
+    assert!(rt; pages.len() == 2 && pages.as_slice() == [7, 9].as_slice());
+    pages.copy_from(&[4, 8]);
+    pages.set(1, 5);
+    assert!(rt; pages.as_slice() == [4, 5].as_slice());
     Ok(())
 }
 

@@ -1,6 +1,6 @@
 use Rattle.std.proofs.Common.{ap, nat_eq, ◌%◌}
 use Rattle.std.proofs.lemmas.Nat.Bits.{shr_and_one}
-use Rattle.era_layout.specs.Pages.{bit_of}
+use Rattle.era_base.specs.Bits.{bit_of}
 use Rattle.era_layout.proofs.bits_page.bit_at.Goals as goal
 
 pub returns : goal.returns

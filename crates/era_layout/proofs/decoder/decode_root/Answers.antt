@@ -1,28 +1,27 @@
-use Rattle.std.proofs.Common.{◌≡◌, ◌∙◌, ℕ, List, [], ◌∷◌, sym, subst, arith, inl, inr}
-use Rattle.era_layout.specs.declared.damage.RootError.{RootError}
-use Rattle.era_layout.specs.Damage.{root_kinds, NoneApplies, IsFirst}
-use Rattle.era_layout.proofs.RootWritten.{stands, read_back, none_applies}
+use Rattle.std.proofs.Common.{◌≡◌, sym, arith}
 use Rattle.era_layout.specs.Root.{RootFields, IsValidRoot, root_bytes}
 use Rattle.era_layout.specs.Numbers.{AreBytes}
+use Rattle.era_layout.specs.Damage.{Passes}
+use Rattle.era_layout.proofs.FirstKind.{Decoded, decoded_has, decoded_is, refused_by}
 use Rattle.era_layout.proofs.RootRead.{bytes_again, is_valid}
+use Rattle.era_layout.proofs.RootWritten.{stands, read_back, none_applies}
 use Rattle.era_layout.proofs.decoder.decode_root.Goals as goal
 
--- where no kind applies, none is the first one
-not_first : (bytes : List ℕ) (kind : RootError) (kinds : List RootError) → NoneApplies bytes kinds → IsFirst bytes kinds kind → ⊥
-not_first bytes kind [] none first = first
-not_first bytes kind (other ∷ kinds) none (inl here) = here.1 none.0
-not_first bytes kind (other ∷ kinds) none (inr later) = not_first bytes kind kinds none.1 later.1
+decoded : (c : goal.After-read_tested) → Decoded c.args.bytes.now (Passes c.args.bytes.now) c.check_root.result c.read_tested.result
+decoded c = record { none = c.check_root.ensures.none; first = c.check_root.ensures.first; read = c.read_tested.ensures }
 
-pub returns-in-Err-clause-again : goal.returns-in-Err-clause-again
-returns-in-Err-clause-again c = λ root valid is.
-    absurd (not_first c.args.bytes.now c.in-Err.kind root_kinds (none_applies root c.args.bytes.now valid (stands root c.args.bytes.now _ valid (sym is))) c.in-Err.ensures.first)
+pub returns-clause-ok : goal.returns-clause-ok
+returns-clause-ok c =
+    let bytes = c.args.bytes.now in
+    let fits : AreBytes bytes = λ i. omega (arith, c.type_inv.bytes i) in
+    decoded_has bytes (Passes bytes) (λ (root : RootFields). IsValidRoot root × (root_bytes root ≡ bytes)) c.check_root.result c.read_tested.result
+    (λ none. (is_valid bytes fits none, bytes_again bytes c.requires fits none)) (decoded c)
 
-pub returns-in-Ok-read_root-clause-ok : goal.returns-in-Ok-read_root-clause-ok
-returns-in-Ok-read_root-clause-ok c =
-    let fits : AreBytes c.args.bytes.now = λ i. omega (arith, c.type_inv.bytes i) in
-    subst (λ (root : RootFields). IsValidRoot root × (root_bytes root ≡ c.args.bytes.now)) (sym c.in-Ok-read_root.ensures)
-    (is_valid c.args.bytes.now fits c.in-Ok.ensures.none, bytes_again c.args.bytes.now c.requires fits c.in-Ok.ensures.none)
+pub returns-clause-again : goal.returns-clause-again
+returns-clause-again c = λ root valid is.
+    let bytes = c.args.bytes.now in
+    let s = stands root bytes _ valid (sym is) in
+    decoded_is bytes (Passes bytes) root c.check_root.result c.read_tested.result (none_applies root bytes valid s) (read_back root bytes valid s) (decoded c)
 
-pub returns-in-Ok-read_root-clause-again : goal.returns-in-Ok-read_root-clause-again
-returns-in-Ok-read_root-clause-again c = λ root valid is.
-    c.in-Ok-read_root.ensures ∙ read_back root c.args.bytes.now valid (stands root c.args.bytes.now _ valid (sym is))
+pub returns-clause-refused : goal.returns-clause-refused
+returns-clause-refused c = refused_by c.args.bytes.now (Passes c.args.bytes.now) c.check_root.result c.read_tested.result (decoded c)
