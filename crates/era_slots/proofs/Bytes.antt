@@ -1,11 +1,11 @@
 -- What a slot's bytes are where they were written, and that slots with the same bytes have the same body.
 use Rattle.std.proofs.Common.{◌≡◌, ℕ, ◌+◌, ◌*◌, ◌^◌, ◌<◌, ◌≤◌, List, ◌++◌, length, get_or, take, drop, refl, sym, ap, ◌∙◌, arith}
 use Rattle.std.specs.Int.{w64, to_le_bytes, from_le_bytes}
-use Rattle.std.proofs.lemmas.List.{get_or-take, get_or-drop, length-replicate, length-take-le, append_assoc}
+use Rattle.std.proofs.lemmas.List.{get_or-take, get_or-drop, length-take-le, append_assoc}
 use Rattle.std.proofs.Math.Seq.{drop-append_seam, take-append_seam, take-length}
 use Rattle.std.proofs.lemmas.Nat.{from_le_bytes-to_le_bytes_8}
 use Rattle.era_base.specs.Bytes.{part, splice}
-use Rattle.era_slots.specs.Slot.{commit_number, body_of, closed_gate, open_gate}
+use Rattle.era_slots.specs.Slot.{gate_of, commit_number, body_of, closed_gate, open_gate}
 use Rattle.era_slots.proofs.Changes.{AgreeIn, part-agree, part-part}
 
 -- bytes that were written over others stand there
@@ -53,25 +53,16 @@ written-body slot seen sectors body size whole is holds =
     ∙ take-whole body whole
 
 -- the gates that were written
-pub length-closed_gate : length closed_gate ≡ 512
-unfolding closed_gate
-length-closed_gate = length-replicate {A = ℕ} 512 0
-
-pub length-open_gate : length open_gate ≡ 512
-unfolding open_gate
-length-open_gate = let size = length-replicate {A = ℕ} 511 0 in omega (arith, size)
-
-first-byte : (slot : ℕ) (seen gate : List ℕ) → length gate ≡ 512 → part (4096 * slot) (length gate) seen ≡ gate
-    → get_or seen (4096 * slot) 0 ≡ get_or gate 0 0
-first-byte slot seen gate size holds =
+first-byte : (slot : ℕ) (seen gate : List ℕ) → gate_of slot seen ≡ gate → get_or seen (4096 * slot) 0 ≡ get_or gate 0 0
+first-byte slot seen gate holds =
     ap (λ (k : ℕ). get_or seen k 0) (let e : 4096 * slot ≡ 4096 * slot + 0 = omega arith in e)
-    ∙ sym (get_or-take (length gate) (drop (4096 * slot) seen) 0 0 (omega arith) ∙ get_or-drop (4096 * slot) seen 0 0)
+    ∙ sym (get_or-take 512 (drop (4096 * slot) seen) 0 0 (omega arith) ∙ get_or-drop (4096 * slot) seen 0 0)
     ∙ ap (λ (xs : List ℕ). get_or xs 0 0) holds
 
-pub written-closed : (slot : ℕ) (seen : List ℕ) → part (4096 * slot) (length closed_gate) seen ≡ closed_gate → get_or seen (4096 * slot) 0 ≡ 0
+pub written-closed : (slot : ℕ) (seen : List ℕ) → gate_of slot seen ≡ closed_gate → get_or seen (4096 * slot) 0 ≡ 0
 unfolding closed_gate
-written-closed slot seen holds = first-byte slot seen closed_gate length-closed_gate holds ∙ refl
+written-closed slot seen holds = first-byte slot seen closed_gate holds ∙ refl
 
-pub written-open : (slot : ℕ) (seen : List ℕ) → part (4096 * slot) (length open_gate) seen ≡ open_gate → get_or seen (4096 * slot) 0 ≡ 1
+pub written-open : (slot : ℕ) (seen : List ℕ) → gate_of slot seen ≡ open_gate → get_or seen (4096 * slot) 0 ≡ 1
 unfolding open_gate
-written-open slot seen holds = first-byte slot seen open_gate length-open_gate holds ∙ refl
+written-open slot seen holds = first-byte slot seen open_gate holds ∙ refl

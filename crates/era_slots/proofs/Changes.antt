@@ -1,5 +1,5 @@
 -- Which bytes a crash leaves, and which bytes and flags stay across calls, by ranges of offsets.
-use Rattle.std.proofs.Common.{◌≡◌, ℕ, ◌+◌, ◌*◌, ◌/◌, ◌<◌, ◌≤◌, true, List, length, get_or, drop, refl, sym, ap, ◌∙◌, arith, inl, inr}
+use Rattle.std.proofs.Common.{◌≡◌, ℕ, ◌+◌, ◌*◌, ◌/◌, ◌<◌, ◌≤◌, true, List, length, get_or, drop, refl, sym, ap, ◌∙◌, subst, arith, inl, inr}
 use Rattle.std.proofs.lemmas.Bool.{cases_lt, false≢true}
 use Rattle.std.proofs.lemmas.List.{ext_get_or, get_or-take, get_or-drop, length-drop, length-take, get_or_past}
 use Rattle.era_base.specs.Bytes.{part}
@@ -70,6 +70,9 @@ part-part at count inner size bytes fits =
 -- changes one after another
 pub same_but-none : (from to : ℕ) (state : State) → SameBut from to state state
 same_but-none from to state = record { bytes = refl; flags = refl; seen = λ offset out. refl; clean = λ offset out is. is }
+
+pub same_but-same : (from to : ℕ) (before after : State) → after ≡ before → SameBut from to before after
+same_but-same from to before after same = subst (SameBut from to before) (sym same) (same_but-none from to before)
 
 pub same_but-join : (from to : ℕ) (one two three : State) → SameBut from to one two → SameBut from to two three → SameBut from to one three
 same_but-join from to one two three a b = record {

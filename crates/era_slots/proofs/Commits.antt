@@ -3,19 +3,19 @@ use Rattle.std.proofs.Common.{◌≡◌, ℕ, ◌+◌, ◌-◌, ◌*◌, ◌^◌
 use Rattle.std.specs.Prelude.{Result, Ok, Err, OnErr}
 use Rattle.std.proofs.lemmas.Bool.{cases_lt, false≢true}
 use Rattle.std.proofs.lemmas.Bool.Decides.{Decides-ltb}
-use Rattle.era_base.specs.CrashModel.{State, History, IsCrashImage, SameBut, IsClean, Went}
-use Rattle.era_slots.specs.Causes.{IsOnDisk}
+use Rattle.era_base.specs.CrashModel.{State, History, IsCrashImage, SameBut, Went}
+use Rattle.era_slots.specs.Calls.{HasBody, HasGate}
 use Rattle.era_slots.specs.Slot.{other, commit_number, body_of, Stores, closed_gate, open_gate}
 use Rattle.era_slots.specs.Standing.{IsCommitted, Stands}
 use Rattle.era_slots.specs.Promise.{HasCommitted, IsStaged, IsSealed, Commits, IsStored}
-use Rattle.era_slots.proofs.Moments.{went-join, went-wider, went-now}
+use Rattle.era_base.proofs.Moments.{went-join, went-wider, went-now}
 use Rattle.era_slots.proofs.Changes.{same_but-join, same_but-wider}
 use Rattle.era_slots.proofs.Bytes.{written-closed, written-open}
 use Rattle.era_slots.proofs.Images.{image-committed, image-left, image-either}
 use Rattle.era_slots.proofs.Stays.{stands-stays, committed-before, pages-stay, number-stays, body-stays, body-kept}
 
 -- the gate that was closed is known to be closed
-pub stands-begun : (target number : ℕ) (now : State) → Stands target number true now → IsOnDisk (4096 * target) closed_gate now
+pub stands-begun : (target number : ℕ) (now : State) → Stands target number true now → HasGate target closed_gate now
     → Stands target number false now
 stands-begun target number now stands put =
     let slot = stands.slot in
@@ -28,7 +28,7 @@ stands-begun target number now stands put =
       committed = stands.committed;
       closed = λ flag. record {
         clean = λ offset above below. put.clean offset (omega arith);
-        closed = λ opened. omega (arith, opened, written-closed target now.seen put.holds);
+        closed = λ opened. omega (arith, opened, written-closed target now.seen put.written);
       };
       left = λ flag. absurd (false≢true flag);
     }
@@ -63,15 +63,9 @@ commits-body target number body before now stands s =
     (same_but-wider (4096 * target + 512) (4096 * target + 4096) (4096 * target) (4096 * target + 4096) before now (omega arith) (omega arith) s)
     (inl (commits-staged target number body before now stands s))
 
--- the body is on the disk, and nothing is pending
-pub record BodyIsPut (target number : ℕ) (body : List ℕ) (now : State) : Type 0 where
-  pub numbered : commit_number target now.seen ≡ number + 1
-  pub holds : body_of target now.seen ≡ body
-  pub clean : IsClean now
-
 -- where the slots stand once the body is on the disk
 pub stands-sealed : (target number : ℕ) (body : List ℕ) (mid : State) → number < 2 ^ 63 - 1 → Stands target number false mid
-    → BodyIsPut target number body mid → Stands target number true mid
+    → HasBody target (number + 1) body mid → Stands target number true mid
 stands-sealed target number body mid few stands put =
     let slot = stands.slot in
     let size = stands.size in
@@ -90,7 +84,7 @@ stands-sealed target number body mid few stands put =
     }
 
 pub commits-sealed : (target number : ℕ) (body : List ℕ) (before mid now : State) → number < 2 ^ 63 - 1 → Stands target number false before
-    → SameBut (4096 * target + 512) (4096 * target + 4096) before mid → BodyIsPut target number body mid
+    → SameBut (4096 * target + 512) (4096 * target + 4096) before mid → HasBody target (number + 1) body mid
     → SameBut (4096 * target) (4096 * target + 512) mid now → IsSealed target number body before now
 commits-sealed target number body before mid now few stands first put second =
     let slot = stands.slot in
@@ -115,7 +109,7 @@ commits-sealed target number body before mid now few stands first put second =
     }
 
 pub commits-gate : (target number : ℕ) (body : List ℕ) (before mid now : State) → number < 2 ^ 63 - 1 → Stands target number false before
-    → SameBut (4096 * target + 512) (4096 * target + 4096) before mid → BodyIsPut target number body mid
+    → SameBut (4096 * target + 512) (4096 * target + 4096) before mid → HasBody target (number + 1) body mid
     → SameBut (4096 * target) (4096 * target + 512) mid now → Commits target number body before now
 commits-gate target number body before mid now few stands first put second =
     commits-of target number body before now stands.slot
@@ -128,20 +122,21 @@ commits-gate target number body before mid now few stands first put second =
 pub went-body : (target number : ℕ) (body : List ℕ) (old mid : History) → Stands target number false old.now
     → Went (SameBut (4096 * target + 512) (4096 * target + 4096)) old mid → Went (Commits target number body) old mid
 went-body target number body old mid stands went =
-    went-wider (SameBut (4096 * target + 512) (4096 * target + 4096)) (Commits target number body) old mid went
-    (λ now s. commits-body target number body old.now now stands s)
+    went-wider (SameBut (4096 * target + 512) (4096 * target + 4096)) (Commits target number body) old mid
+    (λ now s. commits-body target number body old.now now stands s) went
 
 pub went-gate : (target number : ℕ) (body : List ℕ) (old mid new : History) → number < 2 ^ 63 - 1 → Stands target number false old.now
-    → Went (SameBut (4096 * target + 512) (4096 * target + 4096)) old mid → BodyIsPut target number body mid.now
+    → Went (SameBut (4096 * target + 512) (4096 * target + 4096)) old mid → HasBody target (number + 1) body mid.now
     → Went (SameBut (4096 * target) (4096 * target + 512)) mid new → Went (Commits target number body) old new
 went-gate target number body old mid new few stands first put second =
-    went-join (Commits target number body) (SameBut (4096 * target) (4096 * target + 512)) old mid new
-    (went-body target number body old mid stands first) second
-    (λ now s. commits-gate target number body old.now mid.now now few stands (went-now _ old mid first) put s)
+    went-join (SameBut (4096 * target + 512) (4096 * target + 4096)) (SameBut (4096 * target) (4096 * target + 512)) (Commits target number body) old mid new
+    first second
+    (λ now s. commits-body target number body old.now now stands s)
+    (λ now one s. commits-gate target number body old.now mid.now now few stands one put s)
 
 -- the last moment of a commit that came to the gate
 pub sealed-now : (target number : ℕ) (body : List ℕ) (old mid new : History) → number < 2 ^ 63 - 1 → Stands target number false old.now
-    → Went (SameBut (4096 * target + 512) (4096 * target + 4096)) old mid → BodyIsPut target number body mid.now
+    → Went (SameBut (4096 * target + 512) (4096 * target + 4096)) old mid → HasBody target (number + 1) body mid.now
     → Went (SameBut (4096 * target) (4096 * target + 512)) mid new → IsSealed target number body old.now new.now
 sealed-now target number body old mid new few stands first put second =
     commits-sealed target number body old.now mid.now new.now few stands (went-now _ old mid first) put (went-now _ mid new second)
@@ -160,12 +155,12 @@ some-of : (number : ℕ) → ltb 0 number ≡ true → 0 < number
 some-of number flag = (Decides-ltb 0 number).0 flag
 
 pub stands-stored : (target number : ℕ) (body : List ℕ) (before now : State) → number < 2 ^ 63 - 1 → IsSealed target number body before now
-    → IsOnDisk (4096 * target) open_gate now → Stands (other target) (number + 1) (ltb 0 number) now
+    → HasGate target open_gate now → Stands (other target) (number + 1) (ltb 0 number) now
 stands-stored target number body before now few sealed put =
     let s = sealed.stands in
     let slot = s.slot in
     let size = s.size in
-    let opened : get_or now.seen (4096 * target) 0 ≡ 1 = written-open target now.seen put.holds in
+    let opened : get_or now.seen (4096 * target) 0 ≡ 1 = written-open target now.seen put.written in
     let new : IsCommitted target (number + 1) now = record {
       clean = λ offset above below. put.clean offset (omega arith);
       opened = opened;
@@ -202,12 +197,13 @@ images-stored target number body now image stands older slot holds is =
 
 -- behind a commit that answered Ok each crash image has the new body alone
 pub stored-now : (target number : ℕ) (body : List ℕ) (before now : State) → number < 2 ^ 63 - 1 → IsSealed target number body before now
-    → IsOnDisk (4096 * target) open_gate now → IsStored target number body now
+    → HasGate target open_gate now → IsStored target number body now
 stored-now target number body before now few sealed put = record {
   images = λ image is. images-stored target number body now image (stands-stored target number body before now few sealed put)
       (λ some. (sealed.stands.committed some).numbered) sealed.stands.slot sealed.holds is;
   clean = put.clean;
   holds = sealed.holds;
+  gate = put.written;
   older = λ some. (sealed.stands.committed some).numbered;
 }
 

@@ -1,21 +1,17 @@
 -- Which gates are open in the images of a wiping, and which bytes stay.
-use Rattle.std.proofs.Common.{◌≡◌, ℕ, zero, suc, ◌+◌, ◌*◌, ◌<◌, ◌≤◌, ◌⊎◌, ◌↔◌, Bool, true, false, List, length, get_or, drop, refl, sym, ap, ◌∙◌, subst, arith, inl, inr}
-use Rattle.std.specs.Prelude.{Result, Ok, Err, OnOk}
+use Rattle.std.proofs.Common.{◌≡◌, ℕ, ◌+◌, ◌*◌, ◌<◌, ◌≤◌, ◌⊎◌, ◌↔◌, Bool, true, false, List, length, get_or, refl, sym, ◌∙◌, subst, arith, inl, inr}
 use Rattle.std.proofs.lemmas.Bool.{cases_lt, cases_eq, false≢true}
-use Rattle.std.proofs.lemmas.List.{ext_get_or, get_or_past, get_or-take, get_or-drop}
-use Rattle.era_base.specs.Bytes.{part}
+use Rattle.std.proofs.lemmas.List.{ext_get_or, get_or_past}
 use Rattle.era_base.specs.CrashModel.{State, History, IsCrashImage, SameBut, Leaves, IsClean, Went}
-use Rattle.era_slots.specs.Causes.{IsOnDisk}
-use Rattle.era_slots.specs.Slot.{other, SlotIsOpen, SlotIsClosed, IsBlank, closed_gate}
-use Rattle.era_slots.specs.Wiping.{IsSameGate, HasGates, IsOutside, SameButOpenGates, Wipes, gate_end}
-use Rattle.era_slots.proofs.Moments.{went-join, went-wider, went-now}
-use Rattle.era_slots.proofs.Bytes.{written-closed}
+use Rattle.era_slots.specs.Slot.{other, SlotIsOpen, SlotIsClosed}
+use Rattle.era_slots.specs.Wiping.{IsSameGate, HasGates, IsOutsideOpenGates, SameButOpenGates, Wipes, Shuts, gate_end}
+use Rattle.era_base.proofs.Moments.{went-join, went-wider}
 
 closed-or-open : (slot : ℕ) (image : List ℕ) → SlotIsClosed slot image ⊎ SlotIsOpen slot image
 closed-or-open slot image = elim (cases_eq (get_or image (4096 * slot) 0) 1) [ inl same ↦ inr same | inr differs ↦ inl differs ]
 
 -- the bytes of a gate lie outside of another one
-end-apart : (slot : ℕ) (is_open : Bool) (offset : ℕ) → (offset < 4096 * slot) ⊎ (4096 * slot + 512 ≤ offset) → 4096 * slot ≤ offset → gate_end slot is_open ≤ offset
+pub end-apart : (slot : ℕ) (is_open : Bool) (offset : ℕ) → (offset < 4096 * slot) ⊎ (4096 * slot + 512 ≤ offset) → 4096 * slot ≤ offset → gate_end slot is_open ≤ offset
 end-apart slot true offset out above = elim out [ inl below ↦ absurd (omega arith) | inr behind ↦ behind ]
 end-apart slot false offset out above = above
 
@@ -38,10 +34,10 @@ gate-closed slot before now image clean size s is =
 same-gate : (slot : ℕ) (seen image : List ℕ) → get_or image (4096 * slot) 0 ≡ get_or seen (4096 * slot) 0 → IsSameGate slot seen image
 same-gate slot seen image same = (λ opened. sym same ∙ opened, λ opened. same ∙ opened)
 
-apart-gates : (first : ℕ) → first < 2 → (4096 * other first < 4096 * first) ⊎ (4096 * first + 512 ≤ 4096 * other first)
+pub apart-gates : (first : ℕ) → first < 2 → (4096 * other first < 4096 * first) ⊎ (4096 * first + 512 ≤ 4096 * other first)
 apart-gates first slot = elim (cases_lt first 1) [ inl none ↦ inr (omega arith) | inr one ↦ inl (omega arith) ]
 
-gates-apart : (first : ℕ) → first < 2 → (4096 * first < 4096 * other first) ⊎ (4096 * other first + 512 ≤ 4096 * first)
+pub gates-apart : (first : ℕ) → first < 2 → (4096 * first < 4096 * other first) ⊎ (4096 * other first + 512 ≤ 4096 * first)
 gates-apart first slot = elim (cases_lt first 1) [ inl none ↦ inl (omega arith) | inr one ↦ inr (omega arith) ]
 
 gates-first-cases : (first : ℕ) (is_open : Bool) (before now : State) (image : List ℕ) → 12288 ≤ length before.seen → first < 2 → IsClean before
@@ -85,7 +81,7 @@ gates-second first is_open seen mid now slot size clean closed flag same s image
     ]
 
 -- what stays
-outside-end : (slot : ℕ) (is_open : Bool) (seen : List ℕ) (offset : ℕ) → slot < 2 → (is_open ≡ true → SlotIsOpen slot seen) → IsOutside seen offset
+outside-end : (slot : ℕ) (is_open : Bool) (seen : List ℕ) (offset : ℕ) → slot < 2 → (is_open ≡ true → SlotIsOpen slot seen) → IsOutsideOpenGates seen offset
     → 4096 * slot ≤ offset → gate_end slot is_open ≤ offset
 outside-end slot true seen offset lt flag out above = out slot lt (flag refl) above
 outside-end slot false seen offset lt flag out above = above
@@ -136,8 +132,8 @@ wipes-synced first before mid now s wipes clean =
       unpending = λ unpending. gates;
       same = record {
         bytes = wipes.same.bytes ∙ s.bytes;
-        seen = λ offset out. wipes.same.seen offset (subst (λ bytes. IsOutside bytes offset) (sym seen) out) ∙ s.seen offset (λ above. above);
-        clean = λ offset out is. wipes.same.clean offset (subst (λ bytes. IsOutside bytes offset) (sym seen) out) (s.clean offset (λ above. above) is);
+        seen = λ offset out. wipes.same.seen offset (subst (λ bytes. IsOutsideOpenGates bytes offset) (sym seen) out) ∙ s.seen offset (λ above. above);
+        clean = λ offset out is. wipes.same.clean offset (subst (λ bytes. IsOutsideOpenGates bytes offset) (sym seen) out) (s.clean offset (λ above. above) is);
       };
     }
 
@@ -163,83 +159,34 @@ wipes-second first is_open is_open' before mid now slot size clean clean' closed
           (gates-step first is_open before before mid slot flag.0 (gates-none before) s) s';
     }
 
--- the first gate stays closed while the other one is closed
-pub closed-stays : (first : ℕ) (is_open : Bool) (mid now : State) → first < 2 → SlotIsClosed first mid.seen
-    → SameBut (4096 * other first) (gate_end (other first) is_open) mid now → SlotIsClosed first now.seen
-closed-stays first is_open mid now slot closed s = λ opened.
-    closed (sym (s.seen (4096 * first) (end-apart (other first) is_open (4096 * first) (gates-apart first slot))) ∙ opened)
-
-pub blank-both : (first : ℕ) (seen : List ℕ) → first < 2 → SlotIsClosed first seen → SlotIsClosed (other first) seen → IsBlank seen
-blank-both zero seen lt one two = (one, two)
-blank-both (suc zero) seen lt one two = (two, one)
-blank-both (suc (suc n)) seen lt one two = absurd (omega arith)
-
--- a gate that was read
-pub gate-read : (at : ℕ) (seen sector : List ℕ) (flag : Bool) → sector ≡ part at 512 seen → (flag ≡ true) ↔ (get_or sector 0 0 ≡ 1)
-    → (flag ≡ true) ↔ (get_or seen at 0 ≡ 1)
-gate-read at seen sector flag is gate =
-    let same : get_or sector 0 0 ≡ get_or seen at 0
-    = ap (λ (xs : List ℕ). get_or xs 0 0) is ∙ get_or-take 512 (drop at seen) 0 0 (omega arith) ∙ get_or-drop at seen 0 0
-    ∙ ap (λ (k : ℕ). get_or seen k 0) (let e : at + 0 ≡ at = omega arith in e) in
-    (λ opened. sym same ∙ gate.0 opened, λ opened. gate.1 (same ∙ opened))
-
--- a gate that was written closed
-pub closed-written : {E : Type 0} (slot : ℕ) (result : Result (Unit {0}) E) (now : State) → OnOk result (IsOnDisk (4096 * slot) closed_gate now)
-    → OnOk result (IsClean now × SlotIsClosed slot now.seen)
-closed-written slot (Err e) now put = put
-closed-written slot (Ok v) now put = (put.clean, λ opened. omega (arith, opened, written-closed slot now.seen put.holds))
-
 -- the moments of the first closing
 pub went-first : (first : ℕ) (is_open : Bool) (old new : History) → first < 2 → 12288 ≤ length old.now.seen → IsClean old.now
     → (is_open ≡ true) ↔ SlotIsOpen first old.now.seen → Went (SameBut (4096 * first) (gate_end first is_open)) old new → Went (Wipes first) old new
 went-first first is_open old new slot size clean flag went =
-    went-wider (SameBut (4096 * first) (gate_end first is_open)) (Wipes first) old new went
-    (λ now s. wipes-first first is_open old.now now slot size clean flag s)
+    went-wider (SameBut (4096 * first) (gate_end first is_open)) (Wipes first) old new
+    (λ now s. wipes-first first is_open old.now now slot size clean flag s) went
 
 -- the moments of both closings
 pub went-second : (first : ℕ) (is_open is_open' : Bool) (old mid new : History) → first < 2 → 12288 ≤ length old.now.seen → IsClean old.now
-    → IsClean mid.now × SlotIsClosed first mid.now.seen
+    → Shuts first is_open old.now mid.now
     → (is_open ≡ true) ↔ SlotIsOpen first old.now.seen → (is_open' ≡ true) ↔ SlotIsOpen (other first) old.now.seen
     → Went (SameBut (4096 * first) (gate_end first is_open)) old mid → Went (SameBut (4096 * other first) (gate_end (other first) is_open')) mid new
     → Went (Wipes first) old new
-went-second first is_open is_open' old mid new slot size clean closed flag flag' one two =
-    went-join (Wipes first) (SameBut (4096 * other first) (gate_end (other first) is_open')) old mid new
-    (went-first first is_open old mid slot size clean flag one) two
-    (λ now s. wipes-second first is_open is_open' old.now mid.now now slot size clean closed.0 closed.1 flag flag'
-    (went-now (SameBut (4096 * first) (gate_end first is_open)) old mid one) s)
-
--- both gates are closed
-pub blank-second : {E : Type 0} (first : ℕ) (is_open : Bool) (result : Result (Unit {0}) E) (mid new : History) → first < 2 → SlotIsClosed first mid.now.seen
-    → Went (SameBut (4096 * other first) (gate_end (other first) is_open)) mid new
-    → OnOk result (IsClean new.now × SlotIsClosed (other first) new.now.seen) → OnOk result (IsClean new.now × IsBlank new.now.seen)
-blank-second first is_open (Err e) mid new slot closed went put = put
-blank-second first is_open (Ok v) mid new slot closed went put = (
-  put.0,
-  blank-both first new.now.seen slot
-      (closed-stays first is_open mid.now new.now slot closed (went-now (SameBut (4096 * other first) (gate_end (other first) is_open)) mid new went)) put.1,
-)
+went-second first is_open is_open' old mid new slot size clean shut flag flag' one two =
+    let closed = shut.closed clean (λ no opened. false≢true (sym no ∙ flag.1 opened)) in
+    went-join (SameBut (4096 * first) (gate_end first is_open)) (SameBut (4096 * other first) (gate_end (other first) is_open')) (Wipes first) old mid new
+    one two
+    (λ now s. wipes-first first is_open old.now now slot size clean flag s)
+    (λ now s s'. wipes-second first is_open is_open' old.now mid.now now slot size clean closed.0 closed.1 flag flag' s s')
 
 -- the moments of a wiping that came to the gates
 pub went-wiped : (first target : ℕ) (old mid new : History) → target ≡ first → Went (SameBut 0 0) old mid → IsClean mid.now → Went (Wipes first) mid new
     → Went (Wipes target) old new
 went-wiped first target old mid new e one clean two =
     subst (λ k. Went (Wipes k) old new) (sym e)
-    (went-join (Wipes first) (Wipes first) old mid new
-    (went-wider (SameBut 0 0) (Wipes first) old mid one (λ now s. wipes-unsynced first old.now now s)) two
-    (λ now wipes. wipes-synced first old.now mid.now now (went-now (SameBut 0 0) old mid one) wipes clean))
-
-pub went-unsynced : (first : ℕ) (old new : History) → Went (SameBut 0 0) old new → Went (Wipes first) old new
-went-unsynced first old new went = went-wider (SameBut 0 0) (Wipes first) old new went (λ now s. wipes-unsynced first old.now now s)
+    (went-join (SameBut 0 0) (Wipes first) (Wipes first) old mid new one two
+    (λ now s. wipes-unsynced first old.now now s)
+    (λ now s wipes. wipes-synced first old.now mid.now now s wipes clean))
 
 pub is-second : (first : ℕ) → (first ≡ 0 → ⊥) → first < 2 → first ≡ 1
 is-second first differs lt = omega (arith, differs)
-
--- the other gate is closed as it was while the first one is closed
-pub still-closed : (first : ℕ) (is_open is_open' : Bool) (old mid : History) → first < 2 → is_open' ≡ false
-    → (is_open' ≡ true) ↔ SlotIsOpen (other first) old.now.seen → Went (SameBut (4096 * first) (gate_end first is_open)) old mid
-    → SlotIsClosed (other first) mid.now.seen
-still-closed first is_open is_open' old mid slot flag gate went = λ opened.
-    let s = went-now (SameBut (4096 * first) (gate_end first is_open)) old mid went in
-    let kept : get_or mid.now.seen (4096 * other first) 0 ≡ get_or old.now.seen (4096 * other first) 0
-    = s.seen (4096 * other first) (end-apart first is_open (4096 * other first) (apart-gates first slot)) in
-    false≢true (sym flag ∙ gate.1 (sym kept ∙ opened))

@@ -17,11 +17,11 @@ image-closed slot state image known is = λ opened.
 pub image-opened : (slot number : ℕ) (state : State) (image : List ℕ) → IsCommitted slot number state → IsCrashImage state image → SlotIsOpen slot image
 image-opened slot number state image c is = is.kept (4096 * slot) (c.clean (4096 * slot) (omega arith) (omega arith)) ∙ c.opened
 
-image-body : (slot : ℕ) (state : State) (image : List ℕ) → IsCleanIn (4096 * slot + 512) (4096 * slot + 4096) state → IsCrashImage state image
+pub image-body : (slot : ℕ) (state : State) (image : List ℕ) → IsCleanIn (4096 * slot + 512) (4096 * slot + 4096) state → IsCrashImage state image
     → AgreeIn (4096 * slot + 512) (4096 * slot + 4096) image state.seen
 image-body slot state image clean is = agree-image (4096 * slot + 512) (4096 * slot + 4096) state image clean is
 
-committed-body : (slot number : ℕ) (state : State) → IsCommitted slot number state → IsCleanIn (4096 * slot + 512) (4096 * slot + 4096) state
+pub committed-body : (slot number : ℕ) (state : State) → IsCommitted slot number state → IsCleanIn (4096 * slot + 512) (4096 * slot + 4096) state
 committed-body slot number state c = λ offset above below. c.clean offset (omega arith) (omega arith)
 
 -- the other slot's gate is closed in the image, or its number is smaller: the committed body is the image's

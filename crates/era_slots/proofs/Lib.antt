@@ -1,7 +1,5 @@
-pub mod Moments
 pub mod Changes
 pub mod Bytes
-pub mod Puts
 pub mod Written
 pub mod Images
 pub mod Stays
@@ -9,5 +7,6 @@ pub mod Commits
 pub mod Pages
 pub mod Reading
 pub mod Gates
+pub mod Wiped
 pub mod Counts
 pub mod Survival

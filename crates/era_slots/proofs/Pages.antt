@@ -5,7 +5,7 @@ use Rattle.era_base.specs.CrashModel.{State, History, Stepped, SameBut, Went, Is
 use Rattle.era_slots.specs.Slot.{page_of}
 use Rattle.era_slots.specs.Standing.{Stands}
 use Rattle.era_slots.specs.Promise.{PutsPage}
-use Rattle.era_slots.proofs.Moments.{went-step}
+use Rattle.era_base.proofs.Moments.{went-step}
 use Rattle.era_slots.proofs.Changes.{same_but-none, same_but-wider}
 use Rattle.era_slots.proofs.Bytes.{part-splice}
 use Rattle.era_slots.proofs.Stays.{puts-now}

@@ -1,21 +1,34 @@
--- The number and the body of a slot once they were written and synced.
-use Rattle.std.proofs.Common.{◌≡◌, ℕ, ◌+◌, ◌*◌, ◌^◌, ◌<◌, List, length, take, drop, arith, subst}
+-- The gate, and the number and the body, of a slot once they were written and synced.
+use Rattle.std.proofs.Common.{◌≡◌, ℕ, ◌+◌, ◌*◌, ◌^◌, ◌<◌, List, length, take, drop, arith, sym, ap, ◌∙◌, subst}
 use Rattle.std.specs.Prelude.{Result, Ok, Err, OnOk}
 use Rattle.std.specs.Int.{w64, to_le_bytes}
-use Rattle.era_base.specs.CrashModel.{State, IsClean}
-use Rattle.era_slots.specs.Slot.{commit_number, body_of}
-use Rattle.era_slots.specs.Causes.{IsOnDisk}
+use Rattle.era_base.specs.Bytes.{part}
+use Rattle.era_base.specs.CrashModel.{State}
+use Rattle.era_base.specs.Calls.{IsOnDisk}
+use Rattle.era_slots.specs.Calls.{HasBody, HasGate}
 use Rattle.era_slots.proofs.Bytes.{written-number, written-body}
 
-pub written-slot : {E : Type 0} (slot first number : ℕ) (body sectors : List ℕ) (result : Result (Unit {0}) E) (now : State)
-    → first ≡ slot * 8 + 1 → number < 2 ^ 64 → length body ≡ 3576 → length sectors ≡ 3584 → take 8 sectors ≡ to_le_bytes w64 number → drop 8 sectors ≡ body
-    → OnOk result (IsOnDisk (first * 512) sectors now)
-    → OnOk result ((commit_number slot now.seen ≡ number) × (body_of slot now.seen ≡ body) × IsClean now)
-written-slot slot first number body sectors (Err e) now starts below whole size numbered is put = put
-written-slot slot first number body sectors (Ok v) now starts below whole size numbered is put =
+-- a fact at Ok that follows from another one
+pub on_ok : {T E : Type 0} (result : Result T E) {One Two : Type 0} → (One → Two) → OnOk result One → OnOk result Two
+on_ok (Ok value) more holds = more holds
+on_ok (Err error) more holds = holds
+
+pub body-put : (slot first number : ℕ) (body sectors : List ℕ) (now : State) → first ≡ slot * 8 + 1 → number < 2 ^ 64 → length body ≡ 3576
+    → length sectors ≡ 3584 → take 8 sectors ≡ to_le_bytes w64 number → drop 8 sectors ≡ body → IsOnDisk (first * 512) sectors now → HasBody slot number body now
+body-put slot first number body sectors now starts below whole size numbered is put =
     let at : first * 512 ≡ 4096 * slot + 512 = omega arith in
-    let stands : IsOnDisk (4096 * slot + 512) sectors now = subst (λ k. IsOnDisk k sectors now) at put in (
-      written-number slot number now.seen sectors below size numbered stands.holds,
-      written-body slot now.seen sectors body size whole is stands.holds,
-      stands.clean,
-    )
+    let stands : IsOnDisk (4096 * slot + 512) sectors now = subst (λ k. IsOnDisk k sectors now) at put in
+    record {
+      numbered = written-number slot number now.seen sectors below size numbered stands.holds;
+      holds = written-body slot now.seen sectors body size whole is stands.holds;
+      clean = stands.clean;
+    }
+
+pub gate-put : (slot first : ℕ) (gate sector : List ℕ) (now : State) → first ≡ slot * 8 → length sector ≡ 512 → sector ≡ gate
+    → IsOnDisk (first * 512) sector now → HasGate slot gate now
+gate-put slot first gate sector now starts size is put = record {
+  written = ap (λ (k : ℕ). part k 512 now.seen) (let e : 4096 * slot ≡ first * 512 = omega arith in e)
+      ∙ ap (λ (k : ℕ). part (first * 512) k now.seen) (sym size)
+      ∙ put.holds ∙ is;
+  clean = put.clean;
+}

@@ -1,9 +1,14 @@
 -- What two slots are together, by their heads: the gate and the commit number of each.
-use Rattle.std.specs.Prelude.{◌≡◌, ◌<◌, ◌⊎◌, true, false}
+use Rattle.std.specs.Prelude.{◌≡◌, ◌<◌, ◌⊎◌, ◌↔◌, true, false, List, ℕ}
 use Rattle.era_slots.specs.declared.heads.Found.{Found}
 use Rattle.era_slots.specs.declared.heads.Found.TheVariants.{NoneOpen, BadSequence, Tied, Active}
 use Rattle.era_slots.specs.declared.heads.Head.{Head}
-use Rattle.era_slots.specs.Slot.{IsCommitNumber, IsBadNumber}
+use Rattle.era_slots.specs.Slot.{SlotIsOpen, commit_number, IsCommitNumber, IsBadNumber}
+
+-- The gate and the number of a slot of these bytes, which stand alone as those of slot 0 do.
+pub record IsHeadOf (slot : List ℕ) (head : Head) : Type 0 where
+  pub opened : (head.is_open ≡ true) ↔ SlotIsOpen 0 slot
+  pub numbered : head.number ≡ commit_number 0 slot
 
 -- The gate is open over a number that no commit has.
 abbrev pub IsBadHead : Head → Type 0

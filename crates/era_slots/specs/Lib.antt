@@ -1,7 +1,7 @@
 pub mod Slot
 pub mod Standing
 pub mod Promise
-pub mod Causes
+pub mod Calls
 pub mod Opening
 pub mod Found
 pub mod Wiping

@@ -1,7 +1,7 @@
 -- The promise of the slots: what each moment of each call is to the state before the call.
 use Rattle.std.specs.Prelude.{◌≡◌, ◌≢◌, ℕ, ◌+◌, ◌*◌, ◌<◌, ◌≤◌, ◌⊎◌, Bool, true, false, List}
 use Rattle.era_base.specs.CrashModel.{State, SameBut, Leaves, IsClean}
-use Rattle.era_slots.specs.Slot.{other, commit_number, body_of, page_of, IsBlank, Stores}
+use Rattle.era_slots.specs.Slot.{other, gate_of, commit_number, body_of, page_of, IsBlank, Stores, open_gate}
 use Rattle.era_slots.specs.Standing.{IsCleanBut, IsDurable, Stands}
 
 -- The image has the committed body of a state, with its number and in its slot; where there is none, neither gate is open.
@@ -14,10 +14,20 @@ pub record HasFailed (target number : ℕ) (before : State) (image : List ℕ) :
   pub failed : commit_number target before.seen ≡ number + 1
   pub stored : Stores target (number + 1) (body_of target before.seen) image
 
+-- The image has the committed body, or that of the commit that failed in opening its gate, where that gate may be open.
+abbrev pub HasEither : ℕ → ℕ → Bool → State → List ℕ → Type 0
+HasEither target number may_be_open before image =
+    HasCommitted target number before image ⊎ ((may_be_open ≡ true) × HasFailed target number before image)
+
 -- A slot's number and body are what they were.
 pub record KeepsBody (slot : ℕ) (before now : State) : Type 0 where
   pub numbered : commit_number slot now.seen ≡ commit_number slot before.seen
   pub holds : body_of slot now.seen ≡ body_of slot before.seen
+
+-- The image has in a slot the number and the body that a read gives there.
+pub record IsSameBody (slot : ℕ) (seen image : List ℕ) : Type 0 where
+  pub numbered : commit_number slot image ≡ commit_number slot seen
+  pub holds : body_of slot image ≡ body_of slot seen
 
 -- What a read gives of each metadata block behind the slots stays, and what was on the disk stays there; one block is left out.
 pub record KeepsPages (but : ℕ) (before after : State) : Type 0 where
@@ -26,8 +36,7 @@ pub record KeepsPages (but : ℕ) (before after : State) : Type 0 where
 
 -- A moment of `begin`: the committed body, or that of a commit that failed in opening its gate, which the gate may be open over.
 pub record Begins (target number : ℕ) (may_be_open : Bool) (before now : State) : Type 0 where
-  pub images : Leaves (λ image. HasCommitted target number before image
-      ⊎ ((may_be_open ≡ true) × HasFailed target number before image)) now
+  pub images : Leaves (HasEither target number may_be_open before) now
   pub same : SameBut (4096 * target) (4096 * target + 512) before now
   pub kept : KeepsBody (other target) before now
   pub failed : KeepsBody target before now
@@ -63,11 +72,12 @@ pub record Commits (target number : ℕ) (body : List ℕ) (before now : State) 
   pub kept : KeepsBody (other target) before now
   pub pages : KeepsPages target before now
 
--- The state after a `commit` that answered Ok: each crash image has the new body alone, and all is on the disk.
+-- The state after a `commit` that answered Ok: each crash image has the new body alone, all is on the disk, and the gate's sector is 1 and then zeros.
 pub record IsStored (target number : ℕ) (body : List ℕ) (now : State) : Type 0 where
   pub images : Leaves (Stores target (number + 1) body) now
   pub clean : IsClean now
   pub holds : body_of target now.seen ≡ body
+  pub gate : gate_of target now.seen ≡ open_gate
   pub older : 0 < number → commit_number (other target) now.seen ≡ number
 
 -- The state after a `commit` that failed: the gate may be open exactly where its write was begun, and then the new body is on the disk under it.

@@ -15,6 +15,10 @@ SlotIsOpen slot bytes = slice_index bytes (4096 * slot) ≡ 1
 abbrev pub SlotIsClosed : ℕ → List ℕ → Type 0
 SlotIsClosed slot bytes = ¬ SlotIsOpen slot bytes
 
+-- A slot's gate sector.
+abbrev pub gate_of : ℕ → List ℕ → List ℕ
+gate_of slot bytes = part (4096 * slot) 512 bytes
+
 -- The number of the commit that wrote a slot's body.
 unfoldable pub commit_number : ℕ → List ℕ → ℕ
 commit_number slot bytes = from_le_bytes w64 (part (4096 * slot + 512) 8 bytes)

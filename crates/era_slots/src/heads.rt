@@ -1,9 +1,7 @@
 //! What the two slots are, as they were read.
 
-ghost use Rattle.std.specs.Prelude.{◌≡◌, ◌+◌, ◌*◌, ◌≤◌, ◌<◌, ◌↔◌, ℕ, List, length, slice_index, true};
-ghost use Rattle.std.specs.Int.{w64, from_le_bytes};
-ghost use Rattle.era_base.specs.Bytes.{part};
-ghost use Rattle.era_slots.specs.Found.{IsBadHead, IsFound};
+ghost use Rattle.std.specs.Prelude.{◌≡◌, ◌≤◌, ◌↔◌, length, slice_index, true};
+ghost use Rattle.era_slots.specs.Found.{IsHeadOf, IsBadHead, IsFound};
 
 /// What two slots are together.
 #[derive(Clone, Copy, Debug, PartialEq, Eq)]
@@ -17,7 +15,9 @@ pub enum Found {
 /// The gate and the commit number of a slot.
 #[derive(Clone, Copy, Debug, PartialEq, Eq)]
 pub struct Head {
+    /// Whether the gate is open.
     pub is_open: bool,
+    /// The commit number, whatever it is.
     pub number: u64,
 }
 
@@ -38,11 +38,11 @@ pub fn gate_is_open(slot: &[u8]) -> bool
     slot[0] == 1
 }
 
-/// The head of a slot's bytes.
+/// The head of a slot's bytes, of which there are at least 1,024. It takes no memory.
+#[tactic(auto, unfolding(crate::specs::Slot::commit_number))]
 pub fn head_of(slot: &[u8]) -> Head
-    requires { 4096 ≤ length slot.now }
-    ensures gate { (result.is_open ≡ true) ↔ (slice_index slot.now 0 ≡ 1) }
-    ensures number { result.number ≡ from_le_bytes w64 (part 512 8 slot.now) }
+    requires { 1024 ≤ length slot.now }
+    ensures { IsHeadOf slot.now result }
 {
     let mut number = [0; 8];
     number.copy_from_slice(&slot[512..520]);

@@ -2,8 +2,9 @@
 //! body or the new one is there, and never a mixture.
 #![tactic(auto)]
 
+mod commit;
 mod heads;
-mod laws;
+pub mod laws;
 mod look;
 mod opened;
 mod opening;
@@ -12,9 +13,7 @@ mod slots;
 mod steps;
 mod wiping;
 
-pub use laws::{
-    new_body_has_its_pages, one_slot_is_active, page_on_the_disk_is_left,
-    page_that_is_not_put_stays, page_under_an_open_gate_is_on_the_disk,
-};
+pub use heads::{Head, head_of};
+pub use look::read_slots;
 pub use opened::{Opened, SlotError, SlotRefusal};
 pub use slots::Slots;

@@ -1,14 +1,14 @@
 //! Opens the slots of a disk.
 
-ghost use Rattle.std.specs.Prelude.{◌≡◌, ◌+◌, ◌*◌, ◌<◌, ◌≤◌, ◌↔◌, ◌⊎◌, ℕ, List, true, false, length, slice_index, IfOk, OnOk, MatchResult};
-ghost use Rattle.std.specs.Int.{w64, from_le_bytes};
-ghost use Rattle.era_base.specs.Bytes.{part};
-ghost use Rattle.era_base.specs.CrashModel.{SameBut, IsClean, Went, clock};
-ghost use Rattle.era_slots.specs.Slot.{other, page_of, IsActive};
-ghost use Rattle.era_slots.specs.Opening.{slots_of, disk_opened, SlotsStand, Opens, RefusedBy, HasFaultCause, AreBodies, IsFoundIn};
+ghost use Rattle.std.specs.Prelude.{◌≡◌, ◌<◌, ◌≤◌, ℕ, List, length, IfOk, IfErr, OnOk, MatchResult};
+ghost use Rattle.era_base.specs.CrashModel.{SameBut};
+ghost use Rattle.era_base.specs.Calls.{EachMoment, Now, MakesCalls, SameDisk};
+ghost use Rattle.era_slots.specs.Slot.{page_of, commit_number, IsCommitNumber};
+ghost use Rattle.era_slots.specs.Calls.{StandFor};
+ghost use Rattle.era_slots.specs.Opening.{slots_of, disk_opened, OpensOrRefuses, HasShape, HasFaultCause, AreBodies, AreRead, HasNumber, IsFoundIn};
 
 use crate::heads::{Found, gate_is_open, head_of, judge};
-use crate::look::look;
+use crate::look::read_slots;
 use crate::opened::{Opened, SlotError, SlotRefusal};
 use crate::slots::Slots;
 use era_base::{Bytes, Disk, Memory};
@@ -17,8 +17,9 @@ use std::alloc::Global;
 /// What the slots are whose bytes these are.
 pub fn found_in(first: &[u8], second: &[u8]) -> Found
     requires size { (length first.now ≡ 4096) × (length second.now ≡ 4096) }
-    ensures { (seen : List ℕ)
+    ensures found { (seen : List ℕ)
         → first.now ≡ page_of 0 seen → second.now ≡ page_of 1 seen → IsFoundIn seen result }
+    ensures number { HasNumber first.now second.now result }
 {
     judge(head_of(first), head_of(second))
 }
@@ -45,20 +46,14 @@ fn whole<D: Disk>(
     beside: &[u8],
 ) -> Result<Opened<D>, SlotRefusal<D>>
     requires size { (length own.now ≡ 4096) × (length beside.now ≡ 4096) }
-    requires slot { active < 2 }
+    requires active { (active < 2) × IsCommitNumber (commit_number 0 own.now) }
     requires room { 24 ≤ D.sectors disk }
-    requires clean { D.tells ≡ true → IsClean (D.history disk).now }
-    requires own { D.tells ≡ true → own.now ≡ page_of active (D.history disk).now.seen }
-    requires beside { D.tells ≡ true
-        → beside.now ≡ page_of (other active) (D.history disk).now.seen }
-    requires stands { D.tells ≡ true → IsActive active (D.history disk).now.seen }
-    ensures disk { disk_opened result ≡ disk }
-    ensures stands { D.tells ≡ true
-        → IfOk result (λ opened. SlotsStand (D.history disk).now (slots_of opened)) }
-    ensures told { D.tells ≡ true → MatchResult result
-        (Opens (D.history disk).now) (λ refusal. RefusedBy (D.history disk).now refusal.error) }
-    ensures cause { MatchResult result (λ opened. D.faults disk ≡ D.faults disk)
-        (λ refusal. HasFaultCause (D.faults disk) (D.faults refusal.disk) refusal.error) }
+    requires read { Now D.Disk (AreRead active own.now beside.now) disk }
+    ensures disk { (disk_opened result ≡ disk)
+        × IfErr result (λ refusal. refusal.error ≡ SlotError.Memory) }
+    ensures stands { IfOk result (λ opened. Now D.Disk (StandFor (slots_of opened)) disk) }
+    ensures told { Now D.Disk (OpensOrRefuses result) disk }
+    ensures shape { IfOk result HasShape }
 {
     let sequence = head_of(own).number;
     let may_be_open = head_of(beside).is_open;
@@ -89,24 +84,19 @@ impl<D: Disk> Slots<D> {
     /// one commit number, then want of memory for the bodies. Each refusal hands the disk back.
     pub fn open(alloc: Global, mut disk: D) -> Result<Opened<D>, SlotRefusal<D>>
         requires { 24 ≤ D.sectors disk }
-        ensures moments { D.tells ≡ true
-            → Went (SameBut 0 0) (D.history disk) (D.history (disk_opened result)) }
-        ensures stands { D.tells ≡ true → IfOk result
-            (λ opened. SlotsStand (D.history (slots_of opened).disk).now (slots_of opened)) }
-        ensures told { D.tells ≡ true
-            → MatchResult result (λ opened. Opens (D.history (slots_of opened).disk).now opened)
-            (λ refusal. RefusedBy (D.history refusal.disk).now refusal.error) }
-        ensures calls { D.tells ≡ true
-            → OnOk result (clock (D.history (disk_opened result)) ≡ clock (D.history disk) + 3) }
-        ensures disk { (D.sectors (disk_opened result) ≡ D.sectors disk)
-            × (D.place (disk_opened result) ≡ D.place disk) }
+        ensures moments { EachMoment D.Disk (SameBut 0 0) disk (disk_opened result) }
+        ensures stands { IfOk result
+            (λ opened. Now D.Disk (StandFor (slots_of opened)) (slots_of opened).disk) }
+        ensures told { Now D.Disk (OpensOrRefuses result) (disk_opened result) }
+        ensures shape { IfOk result HasShape }
+        ensures calls { OnOk result (MakesCalls D.Disk 3 disk (disk_opened result)) }
+        ensures disk { SameDisk D.Disk disk (disk_opened result) }
         ensures cause { MatchResult result
             (λ opened. D.faults (slots_of opened).disk ≡ D.faults disk)
             (λ refusal. HasFaultCause (D.faults disk) (D.faults refusal.disk) refusal.error) }
     {
-        let mut first = [0; 4096];
-        let mut second = [0; 4096];
-        if let Err(count) = look(&mut disk, &mut first, &mut second) {
+        let (mut first, mut second) = ([0; 4096], [0; 4096]);
+        if let Err(count) = read_slots(&mut disk, &mut first, &mut second) {
             return Err(SlotRefusal {
                 error: SlotError::Fault(count),
                 disk,

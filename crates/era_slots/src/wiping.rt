@@ -1,14 +1,15 @@
 //! Wipes the slots of a disk.
 
-ghost use Rattle.std.specs.Prelude.{◌≡◌, ◌-◌, ◌+◌, ◌*◌, ◌<◌, ◌≤◌, ◌↔◌, ℕ, List, true, false, length, IfOk, OnOk, MatchResult};
-ghost use Rattle.era_base.specs.CrashModel.{SameBut, IsClean, Went, clock};
-ghost use Rattle.era_slots.specs.Slot.{other, SlotIsOpen, SlotIsClosed, IsBlank};
-ghost use Rattle.era_slots.specs.Causes.{HasCount};
-ghost use Rattle.era_slots.specs.Opening.{disk_wiped, SlotsStand, OpensBlank};
-ghost use Rattle.era_slots.specs.Wiping.{Wipes, gate_end, flag_count, open_gates, IsFault};
+ghost use Rattle.std.specs.Prelude.{◌≡◌, ◌+◌, ◌*◌, ◌<◌, ◌≤◌, IfOk, OnOk, MatchResult};
+ghost use Rattle.era_base.specs.CrashModel.{SameBut};
+ghost use Rattle.era_base.specs.Calls.{EachMoment, Now, MakesCalls, SameDisk};
+ghost use Rattle.era_base.specs.Faults.{HasCount};
+ghost use Rattle.era_slots.specs.Calls.{StandFor, AtEnd};
+ghost use Rattle.era_slots.specs.Opening.{disk_wiped, AreBlank};
+ghost use Rattle.era_slots.specs.Wiping.{Wipes, Shuts, IsWiped, HasFlags, gate_end, flag_count, open_gates, IsFault};
 
 use crate::heads::gate_is_open;
-use crate::look::look;
+use crate::look::read_slots;
 use crate::opened::{SlotError, SlotRefusal};
 use crate::slots::Slots;
 use crate::steps::close_gate;
@@ -18,16 +19,12 @@ use era_base::Disk;
 fn close_open<D: Disk>(disk: &mut D, slot: u32, is_open: bool) -> Result<(), u64>
     requires slot { slot < 2 }
     requires room { 24 ≤ D.sectors disk.old }
-    ensures moments { D.tells ≡ true → Went (SameBut (4096 * slot) (gate_end slot is_open))
-        (D.history disk.old) (D.history disk.new) }
-    ensures calls { D.tells ≡ true → OnOk result
-        (clock (D.history disk.new) ≡ clock (D.history disk.old) + 2 * flag_count is_open) }
-    ensures closed { D.tells ≡ true → IsClean (D.history disk.old).now
-        → (is_open ≡ false → SlotIsClosed slot (D.history disk.old).now.seen)
-        → OnOk result
-        (IsClean (D.history disk.new).now × SlotIsClosed slot (D.history disk.new).now.seen) }
-    ensures size { D.sectors disk.new ≡ D.sectors disk.old }
-    ensures place { D.place disk.new ≡ D.place disk.old }
+    ensures moments { EachMoment D.Disk
+        (SameBut (4096 * slot) (gate_end slot is_open)) disk.old disk.new }
+    ensures closed { OnOk result
+        (AtEnd D.Disk (Shuts slot is_open) disk.old disk.new) }
+    ensures calls { OnOk result (MakesCalls D.Disk (2 * flag_count is_open) disk.old disk.new) }
+    ensures disk { SameDisk D.Disk disk.old disk.new }
     ensures cause { HasCount (D.faults disk.old) (D.faults disk.new) result }
 {
     if is_open {
@@ -46,19 +43,12 @@ fn close_both<D: Disk>(
 ) -> Result<(), u64>
     requires slot { first < 2 }
     requires room { 24 ≤ D.sectors disk.old }
-    requires clean { D.tells ≡ true → IsClean (D.history disk.old).now }
-    requires first { D.tells ≡ true
-        → (first_is_open ≡ true) ↔ SlotIsOpen first (D.history disk.old).now.seen }
-    requires beside { D.tells ≡ true
-        → (other_is_open ≡ true) ↔ SlotIsOpen (other first) (D.history disk.old).now.seen }
-    ensures moments { D.tells ≡ true
-        → Went (Wipes first) (D.history disk.old) (D.history disk.new) }
-    ensures blank { D.tells ≡ true
-        → OnOk result (IsClean (D.history disk.new).now × IsBlank (D.history disk.new).now.seen) }
-    ensures calls { D.tells ≡ true → OnOk result (clock (D.history disk.new)
-        ≡ clock (D.history disk.old) + 2 * (flag_count first_is_open + flag_count other_is_open)) }
-    ensures size { D.sectors disk.new ≡ D.sectors disk.old }
-    ensures place { D.place disk.new ≡ D.place disk.old }
+    requires flags { Now D.Disk (HasFlags first first_is_open other_is_open) disk.old }
+    ensures moments { EachMoment D.Disk (Wipes first) disk.old disk.new }
+    ensures wiped { OnOk result (AtEnd D.Disk IsWiped disk.old disk.new) }
+    ensures calls { OnOk result (MakesCalls D.Disk
+        (2 * (flag_count first_is_open + flag_count other_is_open)) disk.old disk.new) }
+    ensures disk { SameDisk D.Disk disk.old disk.new }
     ensures cause { HasCount (D.faults disk.old) (D.faults disk.new) result }
 {
     close_open(disk, first, first_is_open)?;
@@ -69,19 +59,16 @@ fn close_both<D: Disk>(
 fn close_read<D: Disk>(disk: &mut D, first: u32) -> Result<(), u64>
     requires slot { first < 2 }
     requires room { 24 ≤ D.sectors disk.old }
-    ensures moments { D.tells ≡ true
-        → Went (Wipes first) (D.history disk.old) (D.history disk.new) }
-    ensures blank { D.tells ≡ true
-        → OnOk result (IsClean (D.history disk.new).now × IsBlank (D.history disk.new).now.seen) }
-    ensures calls { D.tells ≡ true → OnOk result (clock (D.history disk.new)
-        ≡ clock (D.history disk.old) + 3 + 2 * open_gates (D.history disk.old).now.seen) }
-    ensures size { D.sectors disk.new ≡ D.sectors disk.old }
-    ensures place { D.place disk.new ≡ D.place disk.old }
+    ensures moments { EachMoment D.Disk (Wipes first) disk.old disk.new }
+    ensures wiped { OnOk result (AtEnd D.Disk IsWiped disk.old disk.new) }
+    ensures calls { OnOk result (MakesCalls D.Disk
+        (3 + 2 * open_gates (D.history disk.old).now.seen) disk.old disk.new) }
+    ensures disk { SameDisk D.Disk disk.old disk.new }
     ensures cause { HasCount (D.faults disk.old) (D.faults disk.new) result }
 {
     let mut zero = [0; 512];
     let mut one = [0; 512];
-    look(disk, &mut zero, &mut one)?;
+    read_slots(disk, &mut zero, &mut one)?;
     let zero_is_open = gate_is_open(&zero);
     let one_is_open = gate_is_open(&one);
     if first == 0 {
@@ -94,20 +81,16 @@ fn close_read<D: Disk>(disk: &mut D, first: u32) -> Result<(), u64>
 impl<D: Disk> Slots<D> {
     /// Makes a disk of at least 3 metadata blocks of 4,096 bytes blank: it syncs, reads both gates, and where the gate
     /// of slot `first` (0 or 1) is open it closes it and syncs, and then does the same for the other slot. It refuses a
-    /// fault alone, and hands the disk back. It takes no memory.
+    /// fault alone, and hands the disk back. At Ok the sector of each gate that was open is zeros. It takes no memory.
     pub fn wipe(mut disk: D, first: u32) -> Result<Slots<D>, SlotRefusal<D>>
-        requires slot { first < 2 }
-        requires room { 24 ≤ D.sectors disk }
-        ensures moments { D.tells ≡ true
-            → Went (Wipes first) (D.history disk) (D.history (disk_wiped result)) }
-        ensures stands { D.tells ≡ true
-            → IfOk result (λ slots. SlotsStand (D.history slots.disk).now slots) }
-        ensures blank { D.tells ≡ true → IfOk result (λ slots. IsClean (D.history slots.disk).now
-            × OpensBlank (D.history slots.disk).now.seen slots) }
-        ensures calls { D.tells ≡ true → OnOk result (clock (D.history (disk_wiped result))
-            ≡ clock (D.history disk) + 3 + 2 * open_gates (D.history disk).now.seen) }
-        ensures disk { (D.sectors (disk_wiped result) ≡ D.sectors disk)
-            × (D.place (disk_wiped result) ≡ D.place disk) }
+        requires { (first < 2) × (24 ≤ D.sectors disk) }
+        ensures moments { EachMoment D.Disk (Wipes first) disk (disk_wiped result) }
+        ensures stands { IfOk result (λ slots. Now D.Disk (StandFor slots) slots.disk) }
+        ensures wiped { OnOk result (AtEnd D.Disk IsWiped disk (disk_wiped result)) }
+        ensures shape { IfOk result AreBlank }
+        ensures calls { OnOk result (MakesCalls D.Disk
+            (3 + 2 * open_gates (D.history disk).now.seen) disk (disk_wiped result)) }
+        ensures disk { SameDisk D.Disk disk (disk_wiped result) }
         ensures cause { MatchResult result (λ slots. D.faults slots.disk ≡ D.faults disk)
             (λ refusal. IsFault (D.faults disk) (D.faults refusal.disk) refusal.error) }
     {

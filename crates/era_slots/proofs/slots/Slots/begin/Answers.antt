@@ -1,5 +1,5 @@
 use Rattle.era_slots.specs.Promise.{Begins}
-use Rattle.era_slots.proofs.Moments.{went-none, went-wider, went-now}
+use Rattle.era_base.proofs.Moments.{went-none, went-wider, went-now}
 use Rattle.era_slots.proofs.Stays.{begins-now, begins-none}
 use Rattle.era_slots.proofs.Commits.{stands-begun}
 use Rattle.era_slots.proofs.slots.Slots.begin.Goals as goal
@@ -14,8 +14,9 @@ returns-then-not-self-clause-moments g c = λ told.
 pub returns-in_err-close_gate-clause-moments : goal.returns-in_err-close_gate-clause-moments
 returns-in_err-close_gate-clause-moments g c = λ told.
     rw c.if-not-self.false
-    (went-wider _ _ (g.D.Disk.history c.args.self.now.disk) (g.D.Disk.history c.close_gate.new.disk) (c.close_gate.ensures.moments told)
-    (λ now s. begins-now c.args.self.now.target c.args.self.now.number _ now (rw c.if-not-self.false at (c.requires.stands told)) s))
+    (went-wider _ _ (g.D.Disk.history c.args.self.now.disk) (g.D.Disk.history c.close_gate.new.disk)
+    (λ now s. begins-now c.args.self.now.target c.args.self.now.number _ now (rw c.if-not-self.false at (c.requires.stands told)) s)
+    (c.close_gate.ensures.moments told))
 
 pub returns-in_err-close_gate-clause-stands : goal.returns-in_err-close_gate-clause-stands
 returns-in_err-close_gate-clause-stands g c = λ told.
@@ -27,8 +28,9 @@ returns-in_err-close_gate-clause-stands g c = λ told.
 pub returns-clause-moments : goal.returns-clause-moments
 returns-clause-moments g c = λ told.
     rw c.if-not-self.false
-    (went-wider _ _ (g.D.Disk.history c.args.self.now.disk) (g.D.Disk.history c.close_gate.new.disk) (c.close_gate.ensures.moments told)
-    (λ now s. begins-now c.args.self.now.target c.args.self.now.number _ now (rw c.if-not-self.false at (c.requires.stands told)) s))
+    (went-wider _ _ (g.D.Disk.history c.args.self.now.disk) (g.D.Disk.history c.close_gate.new.disk)
+    (λ now s. begins-now c.args.self.now.target c.args.self.now.number _ now (rw c.if-not-self.false at (c.requires.stands told)) s)
+    (c.close_gate.ensures.moments told))
 
 pub returns-clause-stands : goal.returns-clause-stands
 returns-clause-stands g c = λ told.

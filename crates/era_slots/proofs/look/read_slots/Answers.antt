@@ -1,5 +1,5 @@
 use Rattle.era_slots.proofs.Reading.{went-read, went-again}
-use Rattle.era_slots.proofs.look.look.Goals as goal
+use Rattle.era_slots.proofs.look.read_slots.Goals as goal
 
 -- the first read failed
 pub returns-in_default-read-clause-moments : goal.returns-in_default-read-clause-moments
