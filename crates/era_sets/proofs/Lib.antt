@@ -1,0 +1,3 @@
+mod WordBits
+mod Flags
+mod ChangedWords
