@@ -4,7 +4,7 @@ use Rattle.std.specs.Prelude.{slice_set}
 use Rattle.std.proofs.lemmas.Bool.{cases_lt, eq-eqb, or_left, or_right}
 use Rattle.std.proofs.lemmas.Bool.Decides.{eqb_tells}
 use Rattle.std.proofs.lemmas.List.{get_or_past, get_or-set_same, get_or-set_other}
-use Rattle.era_model.specs.Marks.{has}
+use Rattle.era_base.specs.Flags.{has}
 use Rattle.era_core.specs.Machine.{count_inside, was_kept}
 
 -- where no stripe is inside, none is counted

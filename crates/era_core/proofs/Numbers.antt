@@ -130,8 +130,8 @@ may-same h h' (Read id sector bytes) same may = record {
   block = may.block;
   first = may.first;
   place = place-same h h' sector sector (length bytes / 512) (Some (may.block, may.first)) same refl may.place;
-  same = λ offset within clear.
-      may.same offset within (ap (λ writes. is_cut_at writes may.block (may.first * 512 + offset)) same.flights ∙ clear)
+  same = λ known offset within clear.
+      may.same (at-same false (λ o. is_some o.contents.bytes) h h' same ∙ known) offset within (ap (λ writes. is_cut_at writes may.block (may.first * 512 + offset)) same.flights ∙ clear)
       ∙ ap (λ bytes. slice_index bytes (may.first * 512 + offset)) (same.contents may.block);
 }
 may-same h h' (Roll id era) same may = record { next = may.next ∙ ap (λ now. now + 1) same.era; quiet = sym same.flights ∙ may.quiet }

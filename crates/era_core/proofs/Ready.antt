@@ -5,6 +5,7 @@ use Rattle.std.proofs.Math.Nat.{div-lt_iff_lt-mul, mul_comm}
 use Rattle.std.proofs.lemmas.Bool.{and_parts, cases_lt, cond_both, or_cases, or_left, or_right}
 use Rattle.std.proofs.lemmas.Grind.{div_ceil_times}
 use Rattle.std.proofs.lemmas.List.{get_or_past, length-set}
+use Rattle.era_base.specs.Flags.{has}
 use Rattle.era_base.specs.Geometry.{stripe_blocks, stripe_of}
 use Rattle.era_base.specs.declared.ids.CmdId.{CmdId}
 use Rattle.era_model.specs.declared.flight.FlightWrite.{FlightWrite}
@@ -12,7 +13,6 @@ use Rattle.era_model.specs.declared.history.Happening.{Happening}
 use Rattle.era_model.specs.CommandEvents.{written_stripe}
 use Rattle.era_model.specs.Events.{same_id}
 use Rattle.era_model.specs.History.{at_opening, blocks_at, blocks_now, in_flight, is_open, stripe_now}
-use Rattle.era_model.specs.Marks.{has}
 use Rattle.era_model.specs.Writes.{is_cut, is_writing, with_cut, without}
 use Rattle.era_core.specs.declared.step.Step.{Step}
 use Rattle.era_core.specs.declared.step.Step.TheVariants.{Enter, Leave}

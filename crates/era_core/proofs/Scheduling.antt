@@ -4,6 +4,7 @@ use Rattle.std.specs.Prelude.{slice_set}
 use Rattle.std.proofs.lemmas.Bool.{cond_both}
 use Rattle.std.proofs.lemmas.List.{length-replicate}
 use Rattle.std.proofs.lemmas.Option.{same_Some}
+use Rattle.era_base.specs.Flags.{has}
 use Rattle.era_base.specs.declared.ids.CmdId.{CmdId}
 use Rattle.era_model.specs.declared.event.Event.{Event}
 use Rattle.era_model.specs.declared.event.Event.TheVariants.{Go, Done, Cut, Settle, Unsettled, Roll, Kept}
@@ -16,7 +17,6 @@ use Rattle.era_model.specs.Crashes.{IsReopening, MayCrash}
 use Rattle.era_model.specs.Events.{same_id}
 use Rattle.era_model.specs.History.{at_opening, in_flight, is_open, stripe_now}
 use Rattle.era_model.specs.Legal.{IsLegal, IsOpening, MayHappen}
-use Rattle.era_model.specs.Marks.{has}
 use Rattle.era_core.specs.declared.step.Step.TheVariants.{Enter, Take, Crash, Reopen}
 use Rattle.era_core.specs.AfterSteps.{Run, is_metadata_event, reopening, with_event, with_stripe}
 use Rattle.era_core.specs.Machine.{AllowsInside, CoreState, IsInside, count_inside, opened_core, was_kept}

@@ -1,6 +1,7 @@
 -- Entries that are transcribed one after another.
 use Rattle.std.proofs.Common.{◌≡◌, ℕ, zero, suc, ◌+◌, ◌<◌, ◌&&◌, Bool, List, [], ◌∷◌, ◌++◌, length, take, drop, get_or, set, if◌then◌else◌, ap, add-one, arith}
-use Rattle.era_model.specs.Marks.{ArchivedSet, has, transcribed}
+use Rattle.era_base.specs.Flags.{has}
+use Rattle.era_model.specs.Marks.{ArchivedSet, transcribed}
 
 -- one more entry, counted from a block on
 transcribed-at : (archived : ArchivedSet) (test : ℕ → Bool) (first : ℕ) (entries : List ℕ) (i now d : ℕ) → i < length entries

@@ -1,5 +1,6 @@
 -- What a core keeps beside its history, so that a step is judged without memory.
 use Rattle.std.specs.Prelude.{◌≡◌, ◌⊎◌, ℕ, ◌≤◌, Bool, true, false, List, [], ◌∷◌, ◌++◌, length, Option, Some, None, IfSome}
+use Rattle.era_base.specs.declared.limits.TheConstants.{MOST_SETS, MOST_STRIPES}
 use Rattle.era_model.specs.declared.event.Event.{Event}
 use Rattle.era_model.specs.declared.event.Event.TheVariants.{Mark, Roll, Digest, Snap, Dropped, Done, Settle}
 use Rattle.era_model.specs.declared.flight.FlightWrite.{FlightWrite}
@@ -27,8 +28,8 @@ pub record KeepsUp (h : List Happening) (writes : List FlightWrite) (contents : 
   pub marking : marks ≡ marks_of h
   pub earlier : HavePast h past
   pub snapshot : held ≡ held_of h
-  pub few_sets : length marks.archive ≤ 16
-  pub few_held : IfSome held (λ m. length m.archive ≤ 16)
+  pub few_sets : length marks.archive ≤ MOST_SETS
+  pub few_held : IfSome held (λ m. length m.archive ≤ MOST_SETS)
 
 -- What a core keeps is what the history says.
 abbrev pub IsKeptUp : List Happening → Upkeep → Type 0
@@ -67,7 +68,7 @@ core_of h inside kept = record { history = h; inside = inside; kept = kept }
 pub record IsKept (h : List Happening) (inside : List Bool) (upkeep : Upkeep) : Type 0 where
   pub legal : IsLegal h
   pub keeps : IsKeptUp h upkeep
-  pub few_stripes : length inside ≤ 16
+  pub few_stripes : length inside ≤ MOST_STRIPES
 
 -- How the next session opens where a crash stands last, none elsewhere.
 abbrev pub next_opening : List Happening → ℕ → Option Opening

@@ -1,5 +1,7 @@
 -- The machine: what it keeps, and which steps may happen.
 use Rattle.std.specs.Prelude.{◌≡◌, ℕ, ◌+◌, ◌<◌, ◌≤◌, ◌==◌, ◌||◌, Bool, true, false, List, [], ◌∷◌, replicate, Option, Some, None, if◌then◌else◌}
+use Rattle.era_base.specs.Flags.{has}
+use Rattle.era_base.specs.declared.limits.TheConstants.{LAST_ERA, MOST_STRIPES}
 use Rattle.era_model.specs.declared.event.Event.{Event}
 use Rattle.era_model.specs.declared.event.Event.TheVariants.{Go, Done, Cut, Settle, Unsettled, Roll, Kept}
 use Rattle.era_model.specs.declared.history.Happening.{Happening}
@@ -10,7 +12,6 @@ use Rattle.era_model.specs.CommandEvents.{written_stripe}
 use Rattle.era_model.specs.History.{at_opening, in_flight, is_open, stripe_now}
 use Rattle.era_model.specs.Crashes.{MayCrash}
 use Rattle.era_model.specs.Legal.{MayHappen}
-use Rattle.era_model.specs.Marks.{has}
 use Rattle.era_model.specs.Writes.{some_block}
 use Rattle.era_core.specs.declared.step.Step.{Step}
 use Rattle.era_core.specs.declared.step.Step.TheVariants.{Enter, Leave, Take, Crash, Reopen}
@@ -84,9 +85,9 @@ pub record MayLeaveImages (core : CoreState) (images : Images) : Type 0 where
 
 -- The next session may open on images of an era that isn't the last one, with 1 to 16 stripes.
 pub record MayReopenOn (images : Images) (stripes : ℕ) : Type 0 where
-  pub goes_on : images.marks.era < 4294967295
+  pub goes_on : images.marks.era < LAST_ERA
   pub some_stripe : 1 ≤ stripes
-  pub few_stripes : stripes ≤ 16
+  pub few_stripes : stripes ≤ MOST_STRIPES
 
 -- The next session may open right after a crash.
 abbrev pub MayReopen : List Happening → ℕ → Type 0

@@ -4,9 +4,8 @@ ghost use Rattle.std.specs.Prelude.{◌≡◌, ◌↔◌, IfOk, IsTrue};
 ghost use Rattle.era_model.specs.MarkRuns.{eras_of_runs, flags_of_runs, sets_of_runs};
 
 use crate::block_set::BlockSet;
-use crate::run_eras::run_era;
 use era_base::Memory;
-use era_model::{MarkedSet, is_covered};
+use era_model::{MarkedSet, is_covered, run_era};
 use std::alloc::Global;
 
 /// For each of so many blocks whether it lies in one of the runs.

@@ -1,7 +1,8 @@
 //! An archived set block by block.
 
 ghost use Rattle.std.specs.Prelude.{◌≡◌, IfOk};
-ghost use Rattle.era_model.specs.Marks.{ArchivedSet, has};
+ghost use Rattle.era_base.specs.Flags.{has};
+ghost use Rattle.era_model.specs.Marks.{ArchivedSet};
 
 use era_base::Memory;
 use std::alloc::Global;

@@ -1,16 +1,17 @@
 //! Marks block by block.
 
 ghost use Rattle.std.specs.Prelude.{◌≡◌, ◌↔◌, ◌/◌, ◌<◌, ◌≤◌, ◌^◌, ◌&&◌, IfOk, IsTrue, if◌then◌else◌, length, option_map};
+ghost use Rattle.era_base.specs.Flags.{has};
 ghost use Rattle.era_core.specs.Present.{is_on_page};
 ghost use Rattle.era_model.specs.Digest.{digest_of, digested, first_untranscribed};
 ghost use Rattle.era_model.specs.Usage.{pages_of_marks};
-ghost use Rattle.era_model.specs.Marks.{BlockMarks, blocks_of_marks, entry_of, has, last_archived, marks_last_era, rolled, transcribed, with_block, with_oldest_merged};
+ghost use Rattle.era_model.specs.Marks.{BlockMarks, blocks_of_marks, entry_of, last_archived, marks_last_era, rolled, transcribed, with_block, with_oldest_merged};
 
 use crate::block_lists::{
     are_entries, are_flags, are_sets, copies_of, entries_of, flags_of, sets_of,
 };
 use crate::block_set::BlockSet;
-use era_base::{Geometry, Memory};
+use era_base::{Geometry, MOST_SETS, Memory};
 use era_model::Marks;
 use std::alloc::Global;
 use std::marker::Model;
@@ -93,7 +94,7 @@ impl BlockTable {
         ensures { IfOk result (λ t. t ≡ rolled self.now) }
     {
         let mut next = self.copy(alloc)?;
-        if 16 <= next.archive.len() {
+        if next.archive.len() >= MOST_SETS as usize {
             next.merge_oldest();
         }
         let fresh = vec![in alloc; false; next.current.len()]?;
@@ -168,7 +169,7 @@ impl BlockTable {
 
     /// How many metadata pages the marks take.
     pub fn pages(&self) -> u64
-        requires { length self.now.archive ≤ 16 }
+        requires { length self.now.archive ≤ MOST_SETS }
         ensures value { result ≡ pages_of_marks self.now }
         ensures few { result ≤ 128 }
     {

@@ -1,6 +1,7 @@
 //! The guard of the machine.
 
 ghost use Rattle.std.specs.Prelude.{◌↔◌, ◌≤◌, IsTrue, length, reverse};
+ghost use Rattle.era_base.specs.declared.limits.TheConstants.{MOST_STRIPES};
 ghost use Rattle.era_core.specs.KeptState.{IsKeptUp, core_of};
 ghost use Rattle.era_core.specs.Machine.{IsEnabled, MayLeaveImages, MayTake};
 
@@ -14,7 +15,7 @@ use era_model::{Event, Happening, Images};
 /// Whether the event may be drawn.
 fn may_take(h: &[Happening], inside: &[bool], kept: &[u32], upkeep: &Upkeep, event: &Event) -> bool
     requires keeps { IsKeptUp (reverse h.now) upkeep.now }
-    requires few { length inside.now ≤ 16 }
+    requires few { length inside.now ≤ MOST_STRIPES }
     ensures { IsTrue result ↔ MayTake (core_of (reverse h.now) inside.now kept.now) event.now }
 {
     session_is_open(h)
@@ -32,7 +33,7 @@ fn may_take(h: &[Happening], inside: &[bool], kept: &[u32], upkeep: &Upkeep, eve
 /// Whether the session may end with the images.
 fn may_end(h: &[Happening], inside: &[bool], kept: &[u32], upkeep: &Upkeep, images: &Images) -> bool
     requires keeps { IsKeptUp (reverse h.now) upkeep.now }
-    requires few { length inside.now ≤ 16 }
+    requires few { length inside.now ≤ MOST_STRIPES }
     ensures { IsTrue result
         ↔ MayLeaveImages (core_of (reverse h.now) inside.now kept.now) images.now }
 {
@@ -56,7 +57,7 @@ pub fn is_enabled(
     step: &Step,
 ) -> bool
     requires keeps { IsKeptUp (reverse h.now) upkeep.now }
-    requires few { length inside.now ≤ 16 }
+    requires few { length inside.now ≤ MOST_STRIPES }
     ensures { IsTrue result ↔ IsEnabled (core_of (reverse h.now) inside.now kept.now) step.now }
 {
     match step {

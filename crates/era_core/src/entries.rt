@@ -1,6 +1,7 @@
 //! The era array as runs, from its entries.
 
 ghost use Rattle.std.specs.Prelude.{◌≡◌, ◌≢◌, ◌<◌, ◌≤◌, ℕ, List, length, IfOk, OnOk};
+ghost use Rattle.era_base.specs.declared.limits.TheConstants.{MOST_BLOCKS};
 ghost use Rattle.era_core.specs.Entries.{AddsEntries};
 ghost use Rattle.era_model.specs.EraRuns.{EndWithin, StandsBehindAll};
 ghost use Rattle.era_model.specs.MarkRuns.{eras_of_runs};
@@ -25,7 +26,7 @@ fn add_entries(runs: &mut EraRuns, first: u32, end: u32, era: u32) -> Result<(),
 
 /// The runs of the entries of at most 65,536 blocks.
 pub fn runs_of_entries(alloc: Global, entries: &[u32]) -> Result<EraRuns, Memory>
-    requires { length entries.now ≤ 65536 }
+    requires { length entries.now ≤ MOST_BLOCKS }
     ensures value { IfOk result (λ runs. eras_of_runs 0 (length entries.now) runs ≡ entries.now) }
     ensures within { IfOk result (EndWithin (length entries.now)) }
 {

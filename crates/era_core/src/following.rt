@@ -1,6 +1,7 @@
 //! What a core keeps, followed from event to event.
 
 ghost use Rattle.std.specs.Prelude.{◌≡◌, ◌≤◌, ℕ, List, [], ◌∷◌, ◌++◌, Some, true, length, option_copied, IfOk, IfSome, OnOk, OnErr};
+ghost use Rattle.era_base.specs.declared.limits.TheConstants.{MOST_SETS};
 ghost use Rattle.era_core.specs.KeptState.{HasPushed, IsKeptUp, changes_metadata, target_block, written_block_of};
 ghost use Rattle.era_core.specs.Present.{HaveContents, HaveStripes};
 ghost use Rattle.era_model.specs.History.{in_flight, is_open};
@@ -81,8 +82,8 @@ fn target_of(writes: &[FlightWrite], event: &Event) -> Option<u32>
 impl Upkeep {
     /// What a core keeps at the opening of a session.
     pub fn at_opening(alloc: Global, opening: &Opening) -> Result<Upkeep, Memory>
-        requires sets { length opening.now.marks.archive ≤ 16 }
-        requires held { IfSome opening.now.held (λ m. length m.archive ≤ 16) }
+        requires sets { length opening.now.marks.archive ≤ MOST_SETS }
+        requires held { IfSome opening.now.held (λ m. length m.archive ≤ MOST_SETS) }
         requires stripes { 1 ≤ opening.now.stripes }
         ensures { (h : List Happening) → HaveStripes h
             → IfOk result (IsKeptUp (Opened opening.now ∷ h)) }

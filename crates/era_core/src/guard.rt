@@ -1,6 +1,7 @@
 //! Which steps may happen.
 
 ghost use Rattle.std.specs.Prelude.{◌≡◌, ◌↔◌, ◌≤◌, IsTrue, List, ℕ, length, option_copied, reverse};
+ghost use Rattle.era_base.specs.Flags.{has};
 ghost use Rattle.era_core.specs.Machine.{AllowsInside, IsInside, MayEnter, MayLeave, MayReopen, count_inside, was_kept};
 ghost use Rattle.era_core.specs.KeptState.{core_of};
 ghost use Rattle.era_core.specs.Present.{HaveContents, HavePast, HaveStripes};
@@ -8,7 +9,6 @@ ghost use Rattle.era_model.specs.Crashes.{MayCrash};
 ghost use Rattle.era_model.specs.Marking.{held_of};
 ghost use Rattle.era_model.specs.declared.history.Happening.{Happening};
 ghost use Rattle.era_model.specs.History.{in_flight};
-ghost use Rattle.era_model.specs.Marks.{has};
 
 use crate::block_table::BlockTable;
 use crate::flights::is_stripe_writing;
@@ -16,7 +16,7 @@ use crate::images::may_leave_contents;
 use crate::lookups::session_is_open;
 use crate::present::{stripe_count, stripe_of, written_stripe_of};
 use crate::recovery::may_recover;
-use era_base::Bytes;
+use era_base::{Bytes, MOST_STRIPES};
 use era_model::{Event, FlightWrite, Happening, Images};
 
 /// Whether the flag of the stripe is set.
@@ -42,7 +42,7 @@ fn is_known_inside(inside: &[bool], stripe: Option<u32>) -> bool
 
 /// How many stripes are inside.
 pub fn inside_count(inside: &[bool]) -> u32
-    requires { length inside.now ≤ 16 }
+    requires { length inside.now ≤ MOST_STRIPES }
     ensures value { result ≡ count_inside inside.now }
     ensures few { result ≤ length inside.now }
 {
@@ -68,7 +68,7 @@ fn is_kept(kept: &[u32], number: u32) -> bool
 /// Whether the stripes inside allow the event.
 pub fn do_stripes_allow(h: &[Happening], inside: &[bool], kept: &[u32], event: &Event) -> bool
     requires stripes { HaveStripes (reverse h.now) }
-    requires few { length inside.now ≤ 16 }
+    requires few { length inside.now ≤ MOST_STRIPES }
     ensures { IsTrue result ↔ AllowsInside (core_of (reverse h.now) inside.now kept.now) event.now }
 {
     match event {
@@ -123,7 +123,7 @@ pub fn may_reopen(h: &[Happening], stripes: u32) -> bool
     match h.last() {
         Some(Happening::Crashed(images)) => images.marks.era < u32::MAX
             && 1 <= stripes
-            && stripes <= 16,
+            && stripes <= MOST_STRIPES,
         _ => false,
     }
 }

@@ -1,6 +1,7 @@
 //! Whether an event may be drawn next.
 
 ghost use Rattle.std.specs.Prelude.{◌≡◌, ◌↔◌, ◌≤◌, IfSome, IsTrue, length, option_copied, reverse};
+ghost use Rattle.era_base.specs.declared.limits.TheConstants.{MOST_SETS};
 ghost use Rattle.era_core.specs.Present.{HaveContents, HaveStripes};
 ghost use Rattle.era_model.specs.Conditions.{MayList, MayRead};
 ghost use Rattle.era_model.specs.History.{in_flight};
@@ -14,7 +15,7 @@ use crate::conditions::{
 };
 use crate::lists::{lists_journal, lists_snapshot};
 use crate::metadata_conditions::{Told, may_digest, may_drop, may_refuse, may_snap, may_tell};
-use crate::present::place_of;
+use crate::present::{knows_contents, place_of};
 use crate::reads::reads_as;
 use era_base::{Bytes, Runs};
 use era_model::{Event, FlightWrite, Happening};
@@ -33,13 +34,14 @@ fn may_read(
 {
     match place_of(h, sector, bytes.len() as u64 / 512) {
         Some((block, first)) => bytes.len() % 512 == 0
-            && reads_as(
-                writes,
-                contents[block as usize].as_slice(),
-                block,
-                u64::from(first) * 512,
-                bytes,
-            ),
+            && (!knows_contents(h)
+                || reads_as(
+                    writes,
+                    contents[block as usize].as_slice(),
+                    block,
+                    u64::from(first) * 512,
+                    bytes,
+                )),
         None => false,
     }
 }
@@ -75,9 +77,9 @@ pub fn may_happen(
     requires flight { writes.now ≡ in_flight (reverse h.now) }
     requires content { HaveContents (reverse h.now) contents.now }
     requires marks { marks.now ≡ marks_of (reverse h.now) }
-    requires few { length marks.now.archive ≤ 16 }
+    requires few { length marks.now.archive ≤ MOST_SETS }
     requires held { option_copied held ≡ held_of (reverse h.now) }
-    requires held_few { IfSome (option_copied held) (λ m. length m.archive ≤ 16) }
+    requires held_few { IfSome (option_copied held) (λ m. length m.archive ≤ MOST_SETS) }
     ensures { IsTrue result ↔ MayHappen (reverse h.now) event.now }
 {
     match event {

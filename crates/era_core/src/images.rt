@@ -12,7 +12,7 @@ use crate::flights::is_byte_written;
 use crate::lookups::present_opening;
 use crate::present::{block_count, block_size};
 use era_base::Bytes;
-use era_model::{Contents, FlightWrite, Happening, Images};
+use era_model::{Contents, FlightWrite, Happening, Images, part_of};
 
 /// The known bytes of the origin, none where they aren't known.
 fn known(contents: &Contents) -> &[u8]
@@ -32,14 +32,6 @@ fn opening_len(h: &[Happening]) -> usize
         Some(opening) => known(&opening.contents).len(),
         None => 0,
     }
-}
-
-/// So many of the bytes from an offset on, fewer where they end before.
-fn part_of(bytes: &[u8], start: usize, count: usize) -> &[u8]
-    ensures { result.now ≡ part start count bytes.now }
-{
-    let behind = bytes.split_at(start.min(bytes.len())).1;
-    behind.split_at(count.min(behind.len())).0
 }
 
 /// The bytes of a block of so many sectors.

@@ -25,7 +25,6 @@ mod present;
 mod reads;
 mod recovery;
 mod reopening;
-mod run_eras;
 mod running;
 mod step;
 mod trace;

@@ -2,13 +2,13 @@
 
 ghost use Rattle.std.specs.Prelude.{◌≡◌, ◌<◌, ◌^◌, ℕ, true, IfOk, length, if◌then◌else◌};
 ghost use Rattle.era_base.specs.Runs.{runs_cover};
+ghost use Rattle.era_base.specs.declared.limits.TheConstants.{LAST_ERA};
 ghost use Rattle.era_model.specs.MarkRuns.{eras_of_runs, flags_of_runs};
 ghost use Rattle.era_model.specs.Marks.{rolled, transcribed, with_current_archived, with_oldest_merged};
 
 use crate::entries::runs_of_entries;
-use crate::run_eras::run_era;
-use era_base::{Memory, Runs};
-use era_model::{MarkedSet, Marks, SetList, is_covered};
+use era_base::{MOST_SETS, Memory, Runs};
+use era_model::{MarkedSet, Marks, SetList, is_covered, run_era};
 use std::alloc::Global;
 
 /// The same runs once more.
@@ -75,7 +75,11 @@ fn merge_entry(entry: &mut u32, block: usize, set: &MarkedSet)
 fn merge_set(entries: &mut Vec<u32>, set: &MarkedSet)
     requires { length entries.old.items < 2 ^ 32 }
     ensures { entries.new.items ≡ transcribed
-        record { era = set.now.era; blocks = flags_of_runs 0 (length entries.old.items) set.now.blocks }
+        record {
+          era = set.now.era;
+          blocks = flags_of_runs 0
+              (length entries.old.items) set.now.blocks;
+        }
         (λ block. true) 0 entries.old.items }
 {
     for (block, entry) in entries.iter_mut().enumerate() {
@@ -103,7 +107,7 @@ fn with_oldest_in_array(alloc: Global, marks: &Marks) -> Result<Marks, Memory>
 
 /// The marks with the current set archived under the era that ends, and the next era begun.
 fn in_next_era(alloc: Global, marks: Marks) -> Result<Marks, Memory>
-    requires { marks.era < 4294967295 }
+    requires { marks.era < LAST_ERA }
     ensures { IfOk result (λ m. m ≡ with_current_archived marks) }
 {
     let mut archive = marks.archive;
@@ -122,10 +126,10 @@ fn in_next_era(alloc: Global, marks: Marks) -> Result<Marks, Memory>
 
 /// The marks after an era switch.
 pub fn marks_after_switch(alloc: Global, marks: &Marks) -> Result<Marks, Memory>
-    requires { marks.now.era < 4294967295 }
+    requires { marks.now.era < LAST_ERA }
     ensures { IfOk result (λ m. m ≡ rolled marks.now) }
 {
-    let before = if marks.archive.as_slice().len() < 16 {
+    let before = if marks.archive.as_slice().len() < MOST_SETS as usize {
         copy_marks(alloc, marks)?
     } else {
         with_oldest_in_array(alloc, marks)?

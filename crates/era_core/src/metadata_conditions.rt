@@ -1,6 +1,7 @@
 //! Whether an event of the metadata may be drawn next.
 
 ghost use Rattle.std.specs.Prelude.{◌≡◌, ◌↔◌, ◌≤◌, IfSome, IsTrue, length, option_copied, reverse};
+ghost use Rattle.era_base.specs.declared.limits.TheConstants.{MOST_SETS};
 ghost use Rattle.era_core.specs.Present.{HaveStripes};
 ghost use Rattle.era_model.specs.Conditions.{MayDigest, MayDrop, MaySnap, MayTell};
 ghost use Rattle.era_model.specs.Legal.{MayFailAtMetadata, MayRefuse, MayRefuseHeld, NeedsVolatileEra};
@@ -58,8 +59,8 @@ pub fn may_digest(h: &[Happening], marks: &BlockTable, era: u32, page: Option<u3
 
 /// Whether so many metadata blocks may be used.
 fn is_usage(marks: &BlockTable, held: Option<&BlockTable>, used: u32) -> bool
-    requires marks { length marks.now.archive ≤ 16 }
-    requires held { IfSome (option_copied held) (λ m. length m.archive ≤ 16) }
+    requires marks { length marks.now.archive ≤ MOST_SETS }
+    requires held { IfSome (option_copied held) (λ m. length m.archive ≤ MOST_SETS) }
     ensures { IsTrue result ↔ IsUsage marks.now (option_copied held.entry) used }
 {
     let base = 2 + marks.pages();
@@ -83,9 +84,9 @@ fn is_held_block(held: Option<&BlockTable>, block: Option<u32>) -> bool
 /// Whether a status may tell this.
 pub fn may_tell(h: &[Happening], marks: &BlockTable, held: Option<&BlockTable>, told: Told) -> bool
     requires marks { marks.now ≡ marks_of (reverse h.now) }
-    requires few { length marks.now.archive ≤ 16 }
+    requires few { length marks.now.archive ≤ MOST_SETS }
     requires held { option_copied held ≡ held_of (reverse h.now) }
-    requires held_few { IfSome (option_copied held) (λ m. length m.archive ≤ 16) }
+    requires held_few { IfSome (option_copied held) (λ m. length m.archive ≤ MOST_SETS) }
     ensures { IsTrue result ↔ MayTell (reverse h.now) told.used told.total told.era told.held }
 {
     is_usage(marks, held, told.used)

@@ -1,9 +1,9 @@
-//! What the machine asks of the session's opening, and of the counts that it told.
+//! What the machine reads off the opening of its session: its numbers, and where blocks and writes lie in it.
 
 ghost use Rattle.std.specs.Prelude.{◌≡◌, ◌≤◌, ◌<◌, IfSome, reverse};
 ghost use Rattle.era_core.specs.Present.{HaveStripes};
 ghost use Rattle.era_model.specs.CommandEvents.{written_stripe};
-ghost use Rattle.era_model.specs.History.{at_opening, blocks_now, stripe_now};
+ghost use Rattle.era_model.specs.History.{at_opening, blocks_now, knows_contents, stripe_now};
 ghost use Rattle.era_model.specs.SessionRun.{place_now};
 
 use crate::lookups::{present_opening, written_block_of};
@@ -48,6 +48,16 @@ pub fn place_of(h: &[Happening], sector: u64, count: u64) -> Option<(u32, u32)>
     match present_opening(h) {
         Some(opening) => opening.geometry.place_of(sector, count),
         None => None,
+    }
+}
+
+/// Whether the opening tells the contents of the origin.
+pub fn knows_contents(h: &[Happening]) -> bool
+    ensures { result ≡ knows_contents (reverse h.now) }
+{
+    match present_opening(h) {
+        Some(opening) => opening.contents.bytes.is_some(),
+        None => false,
     }
 }
 

@@ -1,6 +1,7 @@
 //! How the next session opens on what a crash left.
 
 ghost use Rattle.std.specs.Prelude.{◌≡◌, ◌<◌, IfOk, reverse};
+ghost use Rattle.era_base.specs.declared.limits.TheConstants.{LAST_ERA};
 ghost use Rattle.era_core.specs.KeptState.{next_opening};
 ghost use Rattle.era_core.specs.AfterSteps.{reopening};
 ghost use Rattle.era_core.specs.Machine.{MayReopen};
@@ -19,7 +20,7 @@ fn opening_on(
     images: &Images,
     stripes: u32,
 ) -> Result<Opening, Memory>
-    requires { images.now.marks.era < 4294967295 }
+    requires { images.now.marks.era < LAST_ERA }
     ensures { IfOk result (λ opening. opening ≡ reopening before.now images.now stripes) }
 {
     Ok(Opening {

@@ -5,8 +5,8 @@ ghost use Rattle.era_model.specs.MarkRuns.{eras_of_runs, sets_of_runs};
 ghost use Rattle.era_model.specs.Marks.{entry_of};
 ghost use Rattle.era_model.specs.Validity.{AreArchivedBetween, AreValidMarks, IsValidSnapshot, entry_limit};
 
-use crate::run_eras::run_era;
-use era_model::{MarkedSet, Marks};
+use era_base::MOST_SETS;
+use era_model::{MarkedSet, Marks, run_era};
 
 /// Whether the sets' eras ascend below one.
 fn do_ascend(sets: &[MarkedSet], below: u32) -> bool
@@ -60,7 +60,7 @@ pub fn is_valid(m: &Marks) -> bool
     if !do_ascend(sets, m.era) {
         return false;
     }
-    if 16 < sets.len() {
+    if sets.len() > MOST_SETS as usize {
         return false;
     }
     are_within(

@@ -3,7 +3,8 @@ use Rattle.std.proofs.Common.{◌≡◌, ℕ, zero, suc, ◌+◌, ◌<◌, ◌�
 use Rattle.std.specs.Prelude.{max, nat_lt, slice_set, if◌then◌else◌}
 use Rattle.std.proofs.lemmas.Bool.Decides.{nat_tests}
 use Rattle.std.proofs.lemmas.List.{drop_more, drop-set-lt, length-set, take_all, take_more, take_more_set, length_push}
-use Rattle.era_model.specs.Marks.{ArchivedSet, BlockMarks, blocks_of_marks, has, last_archived, rolled, transcribed, with_current_archived, with_oldest_merged}
+use Rattle.era_base.specs.Flags.{has}
+use Rattle.era_model.specs.Marks.{ArchivedSet, BlockMarks, blocks_of_marks, last_archived, rolled, transcribed, with_current_archived, with_oldest_merged}
 use Rattle.era_model.specs.Validity.{AreArchivedBetween, AreValidMarks}
 use Rattle.era_model.specs.MarkLaws.{SwitchKeepsMarks}
 use Rattle.era_marks.specs.Parts.{AreParts}

@@ -1,5 +1,6 @@
 -- The marks of a session as they stand in memory.
 use Rattle.std.specs.Prelude.{◌≡◌, ℕ, ◌+◌, ◌≤◌, All, List, length}
+use Rattle.era_base.specs.declared.limits.TheConstants.{MOST_SETS}
 use Rattle.era_model.specs.Marks.{ArchivedSet, BlockMarks, blocks_of_marks}
 use Rattle.era_model.specs.Validity.{AreValidMarks}
 
@@ -7,5 +8,5 @@ use Rattle.era_model.specs.Validity.{AreValidMarks}
 pub record AreParts (m : BlockMarks) (spare : List ArchivedSet) (capacity : ℕ) : Type 0 where
   pub valid : AreValidMarks m
   pub sizes : All (λ set. length set.blocks ≡ blocks_of_marks m) spare
-  pub sets : length m.archive + length spare ≡ 16
-  pub room : 16 ≤ capacity
+  pub sets : length m.archive + length spare ≡ MOST_SETS
+  pub room : MOST_SETS ≤ capacity

@@ -5,9 +5,7 @@ ghost use Rattle.era_model.specs.Marks.{transcribed, ArchivedSet};
 ghost use Rattle.era_marks.specs.Room.{MakesRoom};
 
 use crate::write_set::WriteSet;
-
-/// The greatest number of archived sets.
-pub const MOST_SETS: usize = 16;
+use era_base::MOST_SETS;
 
 /// Merges a set into the era array: the set's era becomes the entry of each of its blocks.
 fn merge(array: &mut Vec<u32>, set: &WriteSet)
@@ -29,18 +27,19 @@ pub fn take_set(
     archive: &mut Vec<WriteSet>,
     spare: &mut Vec<WriteSet>,
 ) -> WriteSet
-    requires sets { vec_len archive.old + vec_len spare.old ≡ 16 }
-    requires archived { (oldest : ArchivedSet) (sets : List ArchivedSet) → archive.old.items ≡ oldest ∷ sets
+    requires sets { vec_len archive.old + vec_len spare.old ≡ MOST_SETS }
+    requires archived { (oldest : ArchivedSet) (sets : List ArchivedSet)
+        → archive.old.items ≡ oldest ∷ sets
         → length oldest.blocks ≡ vec_len array.old }
     requires spares { All (λ set. length set.blocks ≡ vec_len array.old) spare.old.items }
     ensures room { MakesRoom array.old.items array.new.items archive.old.items archive.new.items }
     ensures size { length result.blocks ≡ vec_len array.old }
-    ensures sets { vec_len archive.new + 1 + vec_len spare.new ≡ 16 }
+    ensures sets { vec_len archive.new + 1 + vec_len spare.new ≡ MOST_SETS }
     ensures spares { All (λ set. length set.blocks ≡ vec_len array.old) spare.new.items }
     ensures len { vec_len array.new ≡ vec_len array.old }
     ensures capacity { vec_capacity archive.new ≡ vec_capacity archive.old }
 {
-    if archive.len() < MOST_SETS {
+    if archive.len() < MOST_SETS as usize {
         return match spare.pop() {
             Some(set) => set,
             None => unreachable!(),

@@ -2,15 +2,17 @@
 //! memory for them is taken at once, so that a mark and an era switch take none.
 
 ghost use Rattle.std.specs.Prelude.{◌≡◌, ◌==◌, ◌<◌, ℕ, false, true, length, replicate, IfOk, vec_len, vec_capacity, All};
+ghost use Rattle.era_base.specs.Flags.{has};
+ghost use Rattle.era_base.specs.declared.limits.TheConstants.{LAST_ERA};
 ghost use Rattle.era_model.specs.Conditions.{ListsExactly};
 ghost use Rattle.era_model.specs.MarkLaws.{LastsAreBounded, MarkGivesEra, SwitchKeepsMarks};
-ghost use Rattle.era_model.specs.Marks.{blocks_of_marks, has, marks_last_era, no_marks, rolled, with_block, written_since};
+ghost use Rattle.era_model.specs.Marks.{blocks_of_marks, marks_last_era, no_marks, rolled, with_block, written_since};
 ghost use Rattle.era_model.specs.Validity.{AreValidMarks};
 
 use crate::listing::add_run;
-use crate::room::{MOST_SETS, take_set};
+use crate::room::take_set;
 use crate::write_set::WriteSet;
-use era_base::{Geometry, Memory, Runs};
+use era_base::{Geometry, MOST_SETS, Memory, Runs};
 use era_model::{last_eras_are_bounded, mark_gives_last_era, switch_keeps_last_eras};
 use std::alloc::Global;
 use std::marker::Model;
@@ -57,10 +59,10 @@ impl Model for SessionMarks {
 
 /// As many sets as can be archived, without blocks.
 fn spare_sets(alloc: Global, blocks: usize) -> Result<Vec<WriteSet>, Memory>
-    ensures count { IfOk result (λ sets. vec_len sets ≡ 16) }
+    ensures count { IfOk result (λ sets. vec_len sets ≡ MOST_SETS) }
     ensures sizes { IfOk result (λ sets. All (λ set. length set.blocks ≡ blocks) sets.items) }
 {
-    let mut sets = Vec::with_capacity(alloc, MOST_SETS)?;
+    let mut sets = Vec::with_capacity(alloc, MOST_SETS as usize)?;
     for _ in 0..MOST_SETS {
         sets.push(WriteSet::new(0, vec![in alloc; false; blocks]?))?;
     }
@@ -71,14 +73,15 @@ impl SessionMarks {
     /// No marks, in an era from 1 on. It takes the memory for all that follows but for the lists.
     pub fn new(alloc: Global, geometry: &Geometry, era: u32) -> Result<SessionMarks, Memory>
         requires { 0 < era }
-        ensures { IfOk result (λ marks. marks ≡ no_marks geometry.now.sectors geometry.now.block_sectors era) }
+        ensures { IfOk result (λ marks. marks
+            ≡ no_marks geometry.now.sectors geometry.now.block_sectors era) }
     {
         let blocks = geometry.blocks() as usize;
         Ok(SessionMarks {
             geometry: *geometry,
             era,
             array: vec![in alloc; 0; blocks]?,
-            archive: Vec::with_capacity(alloc, MOST_SETS)?,
+            archive: Vec::with_capacity(alloc, MOST_SETS as usize)?,
             current: vec![in alloc; false; blocks]?,
             spare: spare_sets(alloc, blocks)?,
         })
@@ -115,7 +118,7 @@ impl SessionMarks {
     /// Moves to the next era, which is below 2^32: the current set is archived, and where sixteen sets are archived the
     /// oldest of them is merged into the era array before.
     pub fn roll(&mut self)
-        requires { self.old.era < 4294967295 }
+        requires { self.old.era < LAST_ERA }
         ensures value { self.new ≡ rolled self.old }
         ensures lasts { SwitchKeepsMarks self.old }
     {
@@ -146,7 +149,8 @@ impl SessionMarks {
 
     /// The blocks that were marked in the era or a later one. Era 0 means the same as 1.
     pub fn since(&self, alloc: Global, era: u32) -> Result<Runs, Memory>
-        ensures { IfOk result (ListsExactly (blocks_of_marks self.now) (written_since self.now era)) }
+        ensures { IfOk result (ListsExactly (blocks_of_marks self.now)
+            (written_since self.now era)) }
     {
         let mut runs = Runs::new(alloc);
         let mut begin = 0;

@@ -1,7 +1,7 @@
 //! A write set: the blocks that were marked in one era.
 
 ghost use Rattle.std.specs.Prelude.{◌≡◌, ◌<◌, length, if◌then◌else◌};
-ghost use Rattle.era_model.specs.Marks.{has};
+ghost use Rattle.era_base.specs.Flags.{has};
 
 use std::marker::Model;
 

@@ -59,7 +59,7 @@ marked-below (Happened event ∷ h) block era legal marked =
 marked-below (Crashed images ∷ h) block era legal marked = marked-below h block era legal.2 marked
 
 -- a block that has a mark in an era has that era or a later one as its last
-marked-last : (h : List Happening) (block era : ℕ) → IsLegal h → is_marked_in h block era ≡ true → era ≤ journal_last_era h block
+pub marked-last : (h : List Happening) (block era : ℕ) → IsLegal h → is_marked_in h block era ≡ true → era ≤ journal_last_era h block
 marked-last [] block era legal marked = absurd (cc)
 marked-last (Opened opening ∷ h) block era legal marked = absurd (cc)
 marked-last (Happened (Mark id other stored) ∷ h) block era legal marked =

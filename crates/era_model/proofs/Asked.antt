@@ -4,6 +4,7 @@ use Rattle.std.specs.Prelude.{max, nat_le}
 use Rattle.std.proofs.lemmas.Bool.{cases_lt, cond_both, and_from, and_parts, or_cases, or_left, or_right, eqb-true, eq-eqb, le-leb, leb-true}
 use Rattle.std.proofs.lemmas.Bool.Decides.{eqb_tells}
 use Rattle.std.proofs.lemmas.List.{get_or_past}
+use Rattle.era_base.specs.Flags.{has}
 use Rattle.era_base.specs.Geometry.{blocks_of}
 use Rattle.era_base.specs.declared.ids.CmdId.{CmdId}
 use Rattle.era_model.specs.declared.event.Event.TheVariants.{Tried, Mark}
@@ -13,7 +14,7 @@ use Rattle.era_model.specs.Events.{same_id, drawn_by}
 use Rattle.era_model.specs.History.{at_opening, blocks_now}
 use Rattle.era_model.specs.Legal.{IsLegal}
 use Rattle.era_model.specs.Marking.{asked_since, is_tried_in, journal_last_era, last_drawn}
-use Rattle.era_model.specs.Marks.{ArchivedSet, BlockMarks, blocks_of_marks, entry_of, has, last_archived, marks_last_era, written_since}
+use Rattle.era_model.specs.Marks.{ArchivedSet, BlockMarks, blocks_of_marks, entry_of, last_archived, marks_last_era, written_since}
 use Rattle.era_model.specs.Recovered.{HaveJournalLasts, IsRecoveredFrom}
 use Rattle.era_model.specs.Validity.{AreArchivedBetween, AreValidMarks}
 use Rattle.era_model.proofs.SwitchLasts.{switch-keeps}

@@ -1,10 +1,11 @@
 -- The events and the reply of a command are those that it drew itself.
 use Rattle.std.proofs.Common.{◌≡◌, Bool, true, false, List, [], ◌∷◌, ◌++◌, ◌||◌, refl, sym, ◌∙◌, arith, append_assoc}
 use Rattle.era_base.specs.declared.ids.CmdId.{CmdId}
+use Rattle.era_model.specs.declared.command.Command.{Command}
 use Rattle.era_model.specs.declared.event.Event.{Event}
 use Rattle.era_model.specs.declared.history.Happening.{Happening}
 use Rattle.era_model.specs.declared.history.Happening.TheVariants.{Happened}
-use Rattle.era_model.specs.Commands.{Command, events_of}
+use Rattle.era_model.specs.Commands.{events_of}
 use Rattle.era_model.specs.Events.{same_id, drawn_by}
 use Rattle.era_model.specs.History.{next_place}
 use Rattle.era_model.specs.SessionRun.{is_among}

@@ -4,8 +4,9 @@ use Rattle.std.specs.Prelude.{max, option_map, if◌then◌else◌}
 use Rattle.std.proofs.lemmas.Bool.{cases_lt, cond_both, eqb-true}
 use Rattle.std.proofs.lemmas.List.{get_or_past}
 use Rattle.std.proofs.lemmas.Option.{same_Some}
+use Rattle.era_base.specs.Flags.{has}
 use Rattle.era_model.specs.Digest.{digest_of, digested, digested_from, first_untranscribed}
-use Rattle.era_model.specs.Marks.{ArchivedSet, BlockMarks, blocks_of_marks, entry_of, has, last_archived, marks_last_era, transcribed}
+use Rattle.era_model.specs.Marks.{ArchivedSet, BlockMarks, blocks_of_marks, entry_of, last_archived, marks_last_era, transcribed}
 use Rattle.era_model.specs.Merging.{merged_array, merged_marks}
 use Rattle.era_model.specs.Promises.{KeepsLastEras}
 use Rattle.era_model.specs.Validity.{AreArchivedBetween, AreValidMarks, entry_limit}

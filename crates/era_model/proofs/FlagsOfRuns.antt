@@ -1,12 +1,13 @@
 -- Runs seen block by block.
 use Rattle.std.proofs.Common.{◌≡◌, ℕ, zero, suc, ◌+◌, ◌<◌, ◌≤◌, max, false, ◌||◌, ◌&&◌, nat_le, List, [], ◌∷◌, ◌++◌, length, drop, get_or, refl, ap, arith, rules, if◌then◌else◌}
 use Rattle.std.proofs.lemmas.List.{drop_more}
+use Rattle.era_base.specs.Flags.{has}
 use Rattle.era_base.specs.Geometry.{blocks_of}
 use Rattle.era_base.specs.Runs.{EndsBefore, runs_cover}
 use Rattle.era_base.specs.declared.geometry.Geometry.{Geometry}
 use Rattle.era_model.specs.declared.marked_set.MarkedSet.{MarkedSet}
 use Rattle.era_model.specs.MarkRuns.{era_in_runs, eras_of_runs, flags_of_runs, marks_of_runs, sets_of_runs}
-use Rattle.era_model.specs.Marks.{entry_of, has, last_archived, marks_last_era}
+use Rattle.era_model.specs.Marks.{entry_of, last_archived, marks_last_era}
 
 -- the flag of a block tells whether it lies in one of the runs
 pub flag_at : (first count : ℕ) (runs : List (ℕ × ℕ)) (i : ℕ) → i < count → has (flags_of_runs first count runs) i ≡ runs_cover runs (first + i)

@@ -137,5 +137,7 @@ as-they-stand h legal open_now =
         valid_snapshot = now.snapshot;
         snapshot = held-found h (held_of h);
       };
-      settled = λ committed. record { lasts = λ block within. now.lasts block; era = now.era; snapshot = refl };
+      lasts = λ committed block within. now.lasts block;
+      era = λ committed. now.era;
+      snapshot = λ committed. refl;
     }

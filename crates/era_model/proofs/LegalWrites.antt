@@ -39,7 +39,7 @@ legal-read_back = record {
       block = 0;
       first = 0;
       place = refl;
-      same = λ offset within clear. index-front (sector_of 170 ++ sector_of 187) (replicate 3072 0) offset within;
+      same = λ known offset within clear. index-front (sector_of 170 ++ sector_of 187) (replicate 3072 0) offset within;
     },
     legal-second_done,
   );

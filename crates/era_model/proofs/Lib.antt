@@ -18,3 +18,6 @@ pub mod Asked
 pub mod DigestLasts
 pub mod Follows
 pub mod LegalCrashes
+pub mod SmallRecoveries
+pub mod WorkedRuns
+pub mod UntoldContents

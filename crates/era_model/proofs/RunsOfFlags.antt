@@ -2,9 +2,9 @@
 use Rattle.std.proofs.Common.{◌≡◌, ℕ, ◌+◌, ◌-◌, ◌<◌, ◌≤◌, Bool, false, true, ◌||◌, ◌&&◌, nat_lt, nat_le, List, [], ◌∷◌, ◌++◌, length, Result, Ok, Err, IfOk, refl, arith, inl, inr, ◌∙◌, sym}
 use Rattle.std.proofs.lemmas.Bool.{cases_lt}
 use Rattle.std.proofs.lemmas.Bool.Decides.{nat_tests}
+use Rattle.era_base.specs.Flags.{has}
 use Rattle.era_base.specs.Runs.{AreRuns, EndsBefore, runs_cover}
 use Rattle.era_model.specs.Conditions.{ListsExactly}
-use Rattle.era_model.specs.Marks.{has}
 use Rattle.era_model.proofs.FlagsOfRuns.{cover-beyond, cover-push}
 
 -- the runs of the flags below an index, but for those from `first` on, which are all set

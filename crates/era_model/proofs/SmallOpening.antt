@@ -1,9 +1,10 @@
 -- The opening of a small first session is legal, and so is each event of a small session at its place.
 use Rattle.std.proofs.Common.{◌≡◌, ℕ, zero, suc, ◌+◌, ◌*◌, ◌<◌, ◌≤◌, false, List, [], ◌∷◌, ◌++◌, length, slice_index, replicate, refl, sym, lit≤, arith}
 use Rattle.std.proofs.lemmas.List.{get_or_append_left}
+use Rattle.era_base.specs.Flags.{has}
 use Rattle.era_model.specs.declared.history.Happening.TheVariants.{Opened}
 use Rattle.era_model.specs.Legal.{IsLegal}
-use Rattle.era_model.specs.Marks.{no_marks, entry_of, has}
+use Rattle.era_model.specs.Marks.{no_marks, entry_of}
 use Rattle.era_model.specs.Rows.{small_opening}
 use Rattle.era_model.specs.Validity.{AreValidMarks}
 

@@ -1,6 +1,7 @@
 -- Small sessions run their commands: each command has events that it may have, in the order of its lane.
 use Rattle.std.proofs.Common.{[], ◌∷◌, Some, None, inl, inr, refl, lit<}
 use Rattle.era_model.specs.declared.event.Event.TheVariants.{Tried, Mark, Done, Settle, Unsettled, Roll, Kept, Cut}
+use Rattle.era_model.specs.Commands.{one_round}
 use Rattle.era_model.specs.Rows.{first_lane, history_of, sector_of, small_opening, zeros}
 use Rattle.era_model.specs.RowsOfFaults.{resolved_commands, resolved_events, snapshot_commands, snapshot_events}
 use Rattle.era_model.specs.RowsOfWrites.{kept_events, kept_rounds, read_back_commands, read_back_events, second_lane}
@@ -8,7 +9,7 @@ use Rattle.era_model.specs.RowsOfDigests.{digested_commands, digested_events}
 use Rattle.era_model.specs.SessionRun.{IsRun}
 
 -- two writes and a read are a run of their commands
-pub run-read_back : IsRun (history_of (small_opening 4 zeros) read_back_events) (read_back_commands ∷ [])
+pub run-read_back : IsRun (history_of (small_opening 4 zeros) read_back_events) (one_round read_back_commands)
 run-read_back = record {
   drawn = (refl, (refl, (refl, (refl, (refl, (refl, (refl, tt)))))));
   events = (
@@ -51,10 +52,11 @@ run-read_back = record {
     ),
     (((λ same. ((lit< tt, tt), ((lit< tt, tt), tt))), tt), (tt, tt)),
   );
+  borders = (tt, tt);
 }
 
 -- a write that is cut, and two checkpoints, are a run of their commands
-pub run-resolved : IsRun (history_of (small_opening 1 zeros) resolved_events) (resolved_commands ∷ [])
+pub run-resolved : IsRun (history_of (small_opening 1 zeros) resolved_events) (one_round resolved_commands)
 run-resolved = record {
   drawn = (refl, (refl, (refl, (refl, (refl, (refl, (refl, (refl, tt))))))));
   events = (
@@ -99,10 +101,11 @@ run-resolved = record {
     ),
     (((λ same. ((lit< tt, (lit< tt, tt)), ((lit< tt, (lit< tt, tt)), tt))), tt), (tt, tt)),
   );
+  borders = (tt, tt);
 }
 
 -- a session that takes, lists and drops a snapshot is a run of its commands
-pub run-snapshots : IsRun (history_of (small_opening 4 []) snapshot_events) (snapshot_commands ∷ [])
+pub run-snapshots : IsRun (history_of (small_opening 4 []) snapshot_events) (one_round snapshot_commands)
 run-snapshots = record {
   drawn = (refl, (refl, (refl, (refl, (refl, (refl, (refl, (refl, (refl, (refl, (refl, (refl, tt))))))))))));
   events = (
@@ -147,6 +150,7 @@ run-snapshots = record {
     ),
   );
   lanes = ((λ same. ((lit< tt, tt), tt), (λ same. ((lit< tt, tt), tt), (λ same. ((lit< tt, (lit< tt, (lit< tt, (lit< tt, tt)))), tt), (λ same. ((lit< tt, tt), tt), (λ same. ((lit< tt, tt), tt), (λ same. ((lit< tt, tt), tt), (λ same. ((lit< tt, tt), tt), (λ same. ((lit< tt, tt), tt), tt)))))))), ((λ same. ((lit< tt, tt), tt), (λ same. ((lit< tt, (lit< tt, (lit< tt, (lit< tt, tt)))), tt), (λ same. ((lit< tt, tt), tt), (λ same. ((lit< tt, tt), tt), (λ same. ((lit< tt, tt), tt), (λ same. ((lit< tt, tt), tt), (λ same. ((lit< tt, tt), tt), tt))))))), ((λ same. ((lit< tt, (lit< tt, (lit< tt, (lit< tt, tt)))), tt), (λ same. ((lit< tt, tt), tt), (λ same. ((lit< tt, tt), tt), (λ same. ((lit< tt, tt), tt), (λ same. ((lit< tt, tt), tt), (λ same. ((lit< tt, tt), tt), tt)))))), ((λ same. ((lit< tt, tt), ((lit< tt, tt), ((lit< tt, tt), ((lit< tt, tt), tt)))), (λ same. ((lit< tt, tt), ((lit< tt, tt), ((lit< tt, tt), ((lit< tt, tt), tt)))), (λ same. ((lit< tt, tt), ((lit< tt, tt), ((lit< tt, tt), ((lit< tt, tt), tt)))), (λ same. ((lit< tt, tt), ((lit< tt, tt), ((lit< tt, tt), ((lit< tt, tt), tt)))), (λ same. ((lit< tt, tt), ((lit< tt, tt), ((lit< tt, tt), ((lit< tt, tt), tt)))), tt))))), ((λ same. ((lit< tt, tt), tt), (λ same. ((lit< tt, tt), tt), (λ same. ((lit< tt, tt), tt), (λ same. ((lit< tt, tt), tt), tt)))), ((λ same. ((lit< tt, tt), tt), (λ same. ((lit< tt, tt), tt), (λ same. ((lit< tt, tt), tt), tt))), ((λ same. ((lit< tt, tt), tt), (λ same. ((lit< tt, tt), tt), tt)), ((λ same. ((lit< tt, tt), tt), tt), (tt, tt)))))))));
+  borders = (tt, tt);
 }
 
 -- a checkpoint of another lane that a write under way makes keep the era is of a run
@@ -193,10 +197,14 @@ run-kept = record {
     ),
   );
   lanes = ((λ same. ((lit< tt, (lit< tt, tt)), ((lit< tt, (lit< tt, tt)), ((lit< tt, (lit< tt, tt)), ((lit< tt, (lit< tt, tt)), tt)))), (λ same. absurd (cc), (λ same. ((lit< tt, tt), ((lit< tt, tt), ((lit< tt, tt), ((lit< tt, tt), tt)))), tt))), ((λ same. absurd (cc), (λ same. ((lit< tt, tt), ((lit< tt, tt), tt)), tt)), ((λ same. absurd (cc), tt), (tt, tt))));
+  borders = (
+    ((((lit< tt, (lit< tt, tt)), ((lit< tt, (lit< tt, tt)), ((lit< tt, (lit< tt, tt)), ((lit< tt, (lit< tt, tt)), tt)))), tt), ((((lit< tt, tt), ((lit< tt, tt), ((lit< tt, tt), ((lit< tt, tt), tt)))), tt), ((((lit< tt, tt), ((lit< tt, tt), ((lit< tt, tt), ((lit< tt, tt), tt)))), tt), tt))),
+    (((((lit< tt, tt), ((lit< tt, tt), tt)), (((lit< tt, tt), tt), tt)), tt), (tt, tt)),
+  );
 }
 
 -- digests are of a run
-pub run-digested : IsRun (history_of (small_opening 4 []) digested_events) (digested_commands ∷ [])
+pub run-digested : IsRun (history_of (small_opening 4 []) digested_events) (one_round digested_commands)
 run-digested = record {
   drawn = (refl, (refl, (refl, (refl, (refl, (refl, (refl, (refl, tt))))))));
   events = (
@@ -229,4 +237,5 @@ run-digested = record {
     ),
   );
   lanes = ((λ same. ((lit< tt, tt), ((lit< tt, tt), ((lit< tt, tt), ((lit< tt, tt), tt)))), (λ same. ((lit< tt, tt), ((lit< tt, tt), ((lit< tt, tt), ((lit< tt, tt), tt)))), (λ same. ((lit< tt, tt), ((lit< tt, tt), ((lit< tt, tt), ((lit< tt, tt), tt)))), (λ same. ((lit< tt, tt), ((lit< tt, tt), ((lit< tt, tt), ((lit< tt, tt), tt)))), tt)))), ((λ same. ((lit< tt, tt), tt), (λ same. ((lit< tt, tt), tt), (λ same. ((lit< tt, tt), tt), tt))), ((λ same. ((lit< tt, tt), tt), (λ same. ((lit< tt, tt), tt), tt)), ((λ same. ((lit< tt, tt), tt), tt), (tt, tt)))));
+  borders = (tt, tt);
 }

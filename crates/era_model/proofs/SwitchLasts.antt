@@ -4,8 +4,9 @@ use Rattle.std.specs.Prelude.{max, nat_lt, if◌then◌else◌}
 use Rattle.std.proofs.lemmas.Bool.{cases_lt}
 use Rattle.std.proofs.lemmas.Bool.Decides.{eqb_tells, nat_tests}
 use Rattle.std.proofs.lemmas.List.{get_or-replicate, get_or_past, get_or-set_same, get_or-set_other, length-replicate, length-set, length_push}
+use Rattle.era_base.specs.Flags.{has}
 use Rattle.era_model.specs.MarkLaws.{LastsAreBounded, MarkGivesEra, SwitchKeepsMarks}
-use Rattle.era_model.specs.Marks.{ArchivedSet, BlockMarks, blocks_of_marks, entry_of, has, last_archived, marks_last_era, transcribed, with_block, with_current_archived, with_oldest_merged}
+use Rattle.era_model.specs.Marks.{ArchivedSet, BlockMarks, blocks_of_marks, entry_of, last_archived, marks_last_era, transcribed, with_block, with_current_archived, with_oldest_merged}
 use Rattle.era_model.specs.Validity.{AreArchivedBetween, AreValidMarks, entry_limit}
 
 -- a set more among the archived ones

@@ -1,6 +1,9 @@
--- Commands of a stream: which events a command may have, in which order, and the answer that they fix.
-use Rattle.std.specs.Prelude.{ℕ, List, [], ◌∷◌, ◌++◌, Bool, if◌then◌else◌}
+-- Commands of a stream, in rounds: the events that each of them drew, and the answer that these fix.
+use Rattle.std.specs.Prelude.{ℕ, List, [], ◌∷◌, ◌++◌, map, if◌then◌else◌}
 use Rattle.era_base.specs.declared.ids.CmdId.{CmdId}
+use Rattle.era_model.specs.declared.command.Command.{Command}
+use Rattle.era_model.specs.declared.command.Request.TheVariants.{Digest as DigestRequest}
+use Rattle.era_model.specs.declared.command.Task.TheVariants.{Ask}
 use Rattle.era_model.specs.declared.event.Event.{Event}
 use Rattle.era_model.specs.declared.event.Event.TheVariants.{Tried, Mark, Go, Done, Cut, Settle, Unsettled, Read, Roll, Kept, Snap, Dropped, Digest, List as ListEvent, Status, Refused}
 use Rattle.era_model.specs.declared.event.Why.{Why}
@@ -13,30 +16,31 @@ use Rattle.era_model.specs.declared.history.Happening.TheVariants.{Opened, Happe
 use Rattle.era_model.specs.Events.{same_id, drawn_by}
 use Rattle.era_model.specs.History.{next_place}
 
--- What a command asks of the metadata.
-pub data Request : Type 0 where
-  Checkpoint : Request
-  TakeSnap : Request
-  DropSnap : Request
-  DigestStep : Request
-  TellStatus : Request
-  ListSince : (since : ℕ) (snap : Bool) → Request
+-- A round: the commands between two barriers of a stream, in its order, and the numbers of those that the digest worker ran beside them, in their order.
+pub record Round : Type 0 where
+  pub commands : List Command
+  pub digests : List ℕ
 
--- What a command does: it writes bytes from a sector on, reads so many sectors from one on, or asks something of the metadata.
-pub data Task : Type 0 where
-  WriteAt : (sector : ℕ) (bytes : List ℕ) → Task
-  ReadAt : (sector count : ℕ) → Task
-  Ask : Request → Task
+-- The command of the digest worker, which is lane 64, with this number. It stands on no line of the stream, whose lines are numbered from 1.
+abbrev pub digest_command : ℕ → Command
+digest_command number = record { line = 0; id = record { lane = 64; number = number }; task = Ask DigestRequest }
 
--- A command of a stream: the number of its line, its name and what it does.
-pub record Command : Type 0 where
-  pub line : ℕ
-  pub id : CmdId
-  pub task : Task
+-- The commands of a round: those of the stream, and then those of the digest worker.
+abbrev pub commands_in : Round → List Command
+commands_in round = round.commands ++ map digest_command round.digests
 
--- Commands between two barriers of a stream, in the order of the stream.
-abbrev pub Round : Type 0
-Round = List Command
+-- The commands of all rounds, in order.
+abbrev pub commands_of : List Round → List Command
+commands_of [] = []
+commands_of (round ∷ rounds) = commands_in round ++ commands_of rounds
+
+-- The round of these commands, without a digest worker.
+abbrev pub round_of : List Command → Round
+round_of commands = record { commands = commands; digests = [] }
+
+-- That round alone.
+abbrev pub one_round : List Command → List Round
+one_round commands = round_of commands ∷ []
 
 -- The events that the command drew in the present session, each with its place, in the order of the places.
 abbrev pub events_of : List Happening → CmdId → List (ℕ × Event)

@@ -1,4 +1,4 @@
--- Which events may happen next, and which histories are legal. Each event has a record of its conditions, at the moment before it.
+-- What each event asks of the history before it: a record of conditions for each of them.
 use Rattle.std.specs.Prelude.{◌≡◌, ℕ, ◌+◌, ◌*◌, ◌/◌, ◌%◌, ◌<◌, ◌≤◌, ◌==◌, ◌&&◌, max, nat_lt, nat_le, Bool, true, false, List, [], length, slice_index, Option, Some, None, is_some}
 use Rattle.era_base.specs.Runs.{AreRuns, runs_cover}
 use Rattle.era_base.specs.declared.ids.CmdId.{CmdId}
@@ -9,7 +9,7 @@ use Rattle.era_model.specs.Marks.{BlockMarks, blocks_of_marks, written_since}
 use Rattle.era_model.specs.Digest.{digest_of}
 use Rattle.era_model.specs.Usage.{IsUsage, held_block}
 use Rattle.era_model.specs.Writes.{is_writing, is_cut, is_cut_at, some_block, write_of, bytes_of}
-use Rattle.era_model.specs.History.{at_opening, blocks_now, stripe_now, era_of, in_flight, content}
+use Rattle.era_model.specs.History.{at_opening, blocks_now, stripe_now, knows_contents, era_of, in_flight, content}
 use Rattle.era_model.specs.Marking.{journal_last_era, marks_of, held_of, is_marked_in, some_event, last_drawn}
 use Rattle.era_model.specs.CommandEvents.{written_stripe}
 use Rattle.era_model.specs.SessionRun.{place_now}
@@ -60,13 +60,13 @@ pub record MayStayCut (h : List Happening) (cut : CmdId) (faults : ℕ) : Type 0
   pub pending : is_cut (in_flight h) cut ≡ true
   pub rose : PartCountAscends h (written_stripe h cut) faults
 
--- A read may give the content of its block, and any bytes in the ranges of cut writes.
+-- A read may give the content of its block, and any bytes in the ranges of cut writes. Where the opening doesn't tell the contents of the origin, it may give any bytes.
 pub record MayRead (h : List Happening) (sector : ℕ) (bytes : List ℕ) : Type 0 where
   pub whole : length bytes % 512 ≡ 0
   pub block : ℕ
   pub first : ℕ
   pub place : place_now h sector (length bytes / 512) ≡ Some (block, first)
-  pub same : (offset : ℕ) → offset < length bytes → is_cut_at (in_flight h) block (first * 512 + offset) ≡ false
+  pub same : knows_contents h ≡ true → (offset : ℕ) → offset < length bytes → is_cut_at (in_flight h) block (first * 512 + offset) ≡ false
       → slice_index bytes offset ≡ slice_index (content h block) (first * 512 + offset)
 
 -- The era may move to the next one while no write is in flight.

@@ -1,6 +1,7 @@
 -- What a crash or the end of a session may leave, and how the next session opens on it.
 use Rattle.std.specs.Prelude.{◌≡◌, ℕ, ◌+◌, ◌<◌, ◌≤◌, List, [], length, Option, Some, None}
 use Rattle.era_base.specs.declared.geometry.Geometry.{Geometry}
+use Rattle.era_base.specs.declared.limits.TheConstants.{LAST_ERA, MOST_STRIPES}
 use Rattle.era_model.specs.declared.history.Happening.{Happening}
 use Rattle.era_model.specs.declared.history.Images.{Images}
 use Rattle.era_model.specs.declared.opening.Opening.{Opening}
@@ -36,7 +37,7 @@ pub record MayEnd (h : List Happening) (images : Images) : Type 0 where
 
 -- A session may open on what was left of the one before: its marks are the recovered ones after one era switch, so its era is one above theirs and theirs isn't the last one; its snapshot and its contents are what was left; its geometry and its metadata blocks are those of before; and it has from 1 to 16 stripes of its own.
 pub record IsReopening (before : List Happening) (images : Images) (opening : Opening) : Type 0 where
-  pub below_last : images.marks.era < 4294967295
+  pub below_last : images.marks.era < LAST_ERA
   pub era : opening.era ≡ images.marks.era + 1
   pub marks : opening.marks ≡ rolled images.marks
   pub held : opening.held ≡ images.held
@@ -44,4 +45,4 @@ pub record IsReopening (before : List Happening) (images : Images) (opening : Op
   pub total : opening.total ≡ at_opening 0 (λ o. o.total) before
   pub contents : opening.contents ≡ images.contents
   pub some_stripe : 1 ≤ opening.stripes
-  pub few_stripes : opening.stripes ≤ 16
+  pub few_stripes : opening.stripes ≤ MOST_STRIPES

@@ -1,5 +1,5 @@
 -- What a history says of its last moment. A history is a list of happenings, the latest first; the words here stop where the session opened.
-use Rattle.std.specs.Prelude.{ℕ, ◌+◌, Bool, true, false, List, [], ◌∷◌, Option, Some, None}
+use Rattle.std.specs.Prelude.{ℕ, ◌+◌, Bool, true, false, List, [], ◌∷◌, Option, Some, None, is_some}
 use Rattle.era_base.specs.Geometry.{blocks_of, stripe_of}
 use Rattle.era_model.specs.declared.event.Event.TheVariants.{Go, Done, Cut, Settle, Roll}
 use Rattle.era_model.specs.declared.opening.Opening.{Opening}
@@ -34,6 +34,10 @@ known_bytes (Some bytes) = bytes
 -- The contents of the origin at the opening, no bytes where they aren't known.
 abbrev pub contents_of : Opening → List ℕ
 contents_of opening = known_bytes opening.contents.bytes
+
+-- Whether the opening tells the contents of the origin.
+abbrev pub knows_contents : List Happening → Bool
+knows_contents h = at_opening false (λ opening. is_some opening.contents.bytes) h
 
 -- Whether a session is open.
 abbrev pub is_open : List Happening → Bool

@@ -4,6 +4,7 @@ use Rattle.era_base.specs.declared.geometry.Geometry.{Geometry}
 use Rattle.era_model.specs.declared.entry.Entry.{Entry}
 use Rattle.era_model.specs.declared.history.Happening.{Happening}
 use Rattle.era_model.specs.declared.history.Happening.TheVariants.{Opened, Happened}
+use Rattle.era_model.specs.declared.journal.Journal.{Journal}
 use Rattle.era_model.specs.declared.opening.Opening.{Opening}
 use Rattle.era_model.specs.Marks.{no_marks}
 
@@ -20,6 +21,11 @@ history_after h (entry ∷ entries) = history_after (Happened entry.event ∷ h)
 -- The history of a session at a place: the opening, and the entries with smaller places.
 abbrev pub history_at : Opening → List Entry → ℕ → List Happening
 history_at opening entries place = history_after (Opened opening ∷ []) (take place entries)
+
+-- This journal with these contents of the origin at its opening.
+abbrev pub with_contents : Journal → List ℕ → Journal
+with_contents journal bytes =
+    record journal { opening = record journal.opening { contents = record { bytes = Some bytes } } }
 
 -- The opening of a first session that keeps its marks in memory: era 1 without marks, no snapshot, no metadata blocks, one stripe, and these contents of the origin.
 abbrev pub session_opening : Geometry → List ℕ → Opening

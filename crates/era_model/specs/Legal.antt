@@ -1,6 +1,7 @@
 -- Legal histories: each happening meets its conditions at its own place.
 use Rattle.std.specs.Prelude.{◌≡◌, ℕ, ◌≤◌, true, false, List, [], ◌∷◌, length, is_some, None}
 use Rattle.era_base.specs.declared.ids.CmdId.{CmdId}
+use Rattle.era_base.specs.declared.limits.TheConstants.{LAST_ERA, MOST_STRIPES}
 use Rattle.era_model.specs.declared.event.Event.{Event}
 use Rattle.era_model.specs.declared.event.Event.TheVariants.{Tried, Mark, Go, Done, Cut, Settle, Unsettled, Read, Roll, Kept, Snap, Dropped, Digest, List as ListEvent, Status, Refused}
 use Rattle.era_model.specs.declared.event.Kind.{Kind}
@@ -45,7 +46,7 @@ pub record MayRefuseHeld (h : List Happening) (block : ℕ) : Type 0 where
 abbrev pub MayRefuse : List Happening → CmdId → Kind → Why → Type 0
 MayRefuse h id kind (DataFault stripe count) = CountAscends h (PartOf stripe) count
 MayRefuse h id kind (MetaFault count) = MayFailAtMetadata h id kind count
-MayRefuse h id kind End = era_of h ≡ 4294967295
+MayRefuse h id kind End = era_of h ≡ LAST_ERA
 MayRefuse h id kind (Held block) = MayRefuseHeld h block
 MayRefuse h id kind NoSnap = held_of h ≡ None
 MayRefuse h id kind Idle = (marks_of h).archive ≡ []
@@ -78,7 +79,7 @@ pub record IsOpening (opening : Opening) : Type 0 where
   pub era : opening.era ≡ opening.marks.era
   pub held : IsValidSnapshot opening.held
   pub some_stripe : 1 ≤ opening.stripes
-  pub few_stripes : opening.stripes ≤ 16
+  pub few_stripes : opening.stripes ≤ MOST_STRIPES
 
 -- A session may open after what happened before: as the first one, or on the images that a crash left.
 abbrev pub MayOpen : List Happening → Opening → Type 0

@@ -1,6 +1,7 @@
 -- What an era switch and a mark do to marks: they stay valid, and the last marked eras change by the mark alone.
 use Rattle.std.specs.Prelude.{◌≡◌, ℕ, ◌≤◌, ◌==◌, true, if◌then◌else◌}
-use Rattle.era_model.specs.Marks.{BlockMarks, has, marks_last_era, rolled, with_block}
+use Rattle.era_base.specs.Flags.{has}
+use Rattle.era_model.specs.Marks.{BlockMarks, marks_last_era, rolled, with_block}
 use Rattle.era_model.specs.Validity.{AreValidMarks}
 
 -- An era switch keeps the marks valid, and each block's last marked era.

@@ -1,6 +1,8 @@
 -- Marks block by block: the era array, the archived write sets and the set of the present era, and how each change of the metadata changes them.
 use Rattle.std.specs.Prelude.{ℕ, ◌+◌, ◌&&◌, max, nat_lt, nat_le, Bool, true, false, List, [], ◌∷◌, ◌++◌, length, replicate, slice_index_or, slice_set, if◌then◌else◌}
+use Rattle.era_base.specs.Flags.{has}
 use Rattle.era_base.specs.Geometry.{blocks_of}
+use Rattle.era_base.specs.declared.limits.TheConstants.{MOST_SETS}
 
 -- A write set that was archived: the era in which it was written, and for each block whether it is in the set.
 pub record ArchivedSet : Type 0 where
@@ -19,10 +21,6 @@ pub record BlockMarks : Type 0 where
 -- How many blocks the marks are of.
 abbrev pub blocks_of_marks : BlockMarks → ℕ
 blocks_of_marks m = blocks_of m.sectors m.block_sectors
-
--- Whether a set has the block. A block past the end is in no set.
-abbrev pub has : List Bool → ℕ → Bool
-has flags block = slice_index_or flags block false
 
 -- The block's entry of the era array, 0 past the end.
 abbrev pub entry_of : List ℕ → ℕ → ℕ
@@ -78,4 +76,4 @@ with_current_archived m = record m {
 
 -- The marks after an era switch: where sixteen sets are archived, the oldest is merged first.
 abbrev pub rolled : BlockMarks → BlockMarks
-rolled m = with_current_archived (if nat_lt (length m.archive) 16 then m else with_oldest_merged m m.archive)
+rolled m = with_current_archived (if nat_lt (length m.archive) MOST_SETS then m else with_oldest_merged m m.archive)

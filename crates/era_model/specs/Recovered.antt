@@ -2,6 +2,8 @@
 use Rattle.std.specs.Prelude.{◌≡◌, ◌≢◌, ◌⊎◌, ℕ, ◌+◌, ◌<◌, ◌||◌, not, Bool, true, false, List, [], ◌∷◌, Option, Some, None, is_some, if◌then◌else◌}
 use Rattle.era_model.specs.declared.event.Event.{Event}
 use Rattle.era_model.specs.declared.event.Event.TheVariants.{Mark, Roll, Snap, Dropped, Digest, Refused}
+use Rattle.era_model.specs.declared.event.Kind.{Kind}
+use Rattle.era_model.specs.declared.event.Kind.TheVariants.{Write as WriteKind, Checkpoint as CheckpointKind, TakeSnap as TakeSnapKind, DropSnap as DropSnapKind}
 use Rattle.era_model.specs.declared.event.Why.TheVariants.{MetaFault}
 use Rattle.era_model.specs.declared.history.Happening.{Happening}
 use Rattle.era_model.specs.declared.history.Happening.TheVariants.{Opened, Happened, Crashed}
@@ -67,26 +69,38 @@ is_committed journal (Digest id era page) = true
 is_committed journal (Roll id era) = not (some_event journal (is_metadata_fault_of id))
 is_committed journal event = false
 
--- Whether the event is that the metadata disk failed.
-abbrev pub is_metadata_fault : Event → Bool
-is_metadata_fault (Refused id kind (MetaFault count)) = true
-is_metadata_fault event = false
+-- Whether the event is that the metadata disk failed for a command of a kind that passes the test.
+abbrev pub is_metadata_fault : (Kind → Bool) → Event → Bool
+is_metadata_fault test (Refused id kind (MetaFault count)) = test kind
+is_metadata_fault test event = false
 
--- Whether a fault of the metadata disk stands in the session's journal up to here, with no committed event after it.
-abbrev pub fails_after_commits : List Happening → List Happening → Bool
-fails_after_commits journal [] = false
-fails_after_commits journal (Opened opening ∷ earlier) = false
-fails_after_commits journal (Happened event ∷ earlier) =
-    if is_committed journal event then false else (is_metadata_fault event || fails_after_commits journal earlier)
-fails_after_commits journal (Crashed images ∷ earlier) = false
+-- Whether a fault of the metadata disk for a command of such a kind stands in the session's journal up to here, with no committed event after it.
+abbrev pub fails_after_commits : (Kind → Bool) → List Happening → List Happening → Bool
+fails_after_commits test journal [] = false
+fails_after_commits test journal (Opened opening ∷ earlier) = false
+fails_after_commits test journal (Happened event ∷ earlier) =
+    if is_committed journal event then false else (is_metadata_fault test event || fails_after_commits test journal earlier)
+fails_after_commits test journal (Crashed images ∷ earlier) = false
 
--- Marks and a snapshot have all that the journal says: its last marked era for each block, its era and its snapshot.
-pub record IsSettled (h : List Happening) (m : BlockMarks) (found : Option BlockMarks) : Type 0 where
-  pub lasts : HaveJournalLasts h m None
-  pub era : m.era ≡ era_of h
-  pub snapshot : found ≡ held_of h
+-- Whether a command of the kind marks blocks.
+abbrev pub is_write : Kind → Bool
+is_write WriteKind = true
+is_write kind = false
 
--- Marks and a snapshot are durable where the session ended: they may be recovered, and they have all that the journal says, unless the metadata disk failed and nothing was committed since.
+-- Whether a command of the kind moves the era.
+abbrev pub is_switch : Kind → Bool
+is_switch CheckpointKind = true
+is_switch kind = false
+
+-- Whether a command of the kind takes or drops the snapshot.
+abbrev pub changes_snapshot : Kind → Bool
+changes_snapshot TakeSnapKind = true
+changes_snapshot DropSnapKind = true
+changes_snapshot kind = false
+
+-- Marks and a snapshot are durable where the session ended: they may be recovered, and they have the journal's last marked era for each block unless a write failed at the metadata disk behind the last commit, its era unless a checkpoint did, and its snapshot unless a taking or dropping did.
 pub record IsDurableFrom (h : List Happening) (m : BlockMarks) (found : Option BlockMarks) : Type 0 where
   pub recovered : IsRecoveredFrom h m found
-  pub settled : fails_after_commits h h ≡ false → IsSettled h m found
+  pub lasts : fails_after_commits is_write h h ≡ false → HaveJournalLasts h m None
+  pub era : fails_after_commits is_switch h h ≡ false → m.era ≡ era_of h
+  pub snapshot : fails_after_commits changes_snapshot h h ≡ false → found ≡ held_of h

@@ -6,7 +6,9 @@ use Rattle.era_model.specs.declared.journal.Journal.{Journal}
 use Rattle.era_model.specs.declared.event.Event.TheVariants.{Roll, Digest, Refused}
 use Rattle.era_model.specs.declared.event.Kind.TheVariants.{Digest as DigestKind}
 use Rattle.era_model.specs.declared.event.Why.TheVariants.{Idle}
-use Rattle.era_model.specs.Commands.{Command, WriteAt, Ask, Checkpoint, DigestStep}
+use Rattle.era_model.specs.declared.command.Command.{Command}
+use Rattle.era_model.specs.declared.command.Request.TheVariants.{Checkpoint, Digest as DigestRequest}
+use Rattle.era_model.specs.declared.command.Task.TheVariants.{Write, Ask}
 use Rattle.era_model.specs.Rows.{command_at, first_lane, history_of, journal_of, sector_of, small_opening}
 use Rattle.era_model.specs.RowsOfWrites.{marked_write}
 
@@ -27,9 +29,9 @@ early_drop_events =
 -- The commands of this session.
 abbrev pub digested_commands : List Command
 digested_commands =
-    command_at 1 (first_lane 0) (WriteAt 40 (sector_of 170)) ∷ command_at 2 (first_lane 1) (Ask Checkpoint)
-    ∷ command_at 3 (first_lane 2) (Ask DigestStep) ∷ command_at 4 (first_lane 3) (Ask DigestStep)
-    ∷ command_at 5 (first_lane 4) (Ask DigestStep) ∷ []
+    command_at 1 (first_lane 0) (Write 40 (sector_of 170)) ∷ command_at 2 (first_lane 1) (Ask Checkpoint)
+    ∷ command_at 3 (first_lane 2) (Ask DigestRequest) ∷ command_at 4 (first_lane 3) (Ask DigestRequest)
+    ∷ command_at 5 (first_lane 4) (Ask DigestRequest) ∷ []
 
 -- The history of the session after `digested_events`.
 abbrev pub digested_history : List Happening

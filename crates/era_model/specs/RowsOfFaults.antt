@@ -6,7 +6,9 @@ use Rattle.era_model.specs.declared.journal.Journal.{Journal}
 use Rattle.era_model.specs.declared.event.Event.TheVariants.{Tried, Mark, Go, Cut, Settle, Unsettled, Roll, Kept, Snap, Dropped, List as ListEvent, Status, Refused}
 use Rattle.era_model.specs.declared.event.Kind.TheVariants.{Write as WriteKind, TakeSnap as TakeSnapKind, DropSnap as DropSnapKind, List as ListKind}
 use Rattle.era_model.specs.declared.event.Why.TheVariants.{MetaFault, Held, NoSnap}
-use Rattle.era_model.specs.Commands.{Command, WriteAt, Ask, Checkpoint, TakeSnap, DropSnap, TellStatus, ListSince}
+use Rattle.era_model.specs.declared.command.Command.{Command}
+use Rattle.era_model.specs.declared.command.Request.TheVariants.{Checkpoint, TakeSnap, DropSnap, Status as StatusRequest, List as ListRequest}
+use Rattle.era_model.specs.declared.command.Task.TheVariants.{Write, Ask}
 use Rattle.era_model.specs.Rows.{command_at, first_lane, history_of, journal_of, sector_of, small_opening, zeros}
 use Rattle.era_model.specs.RowsOfWrites.{marked_write}
 
@@ -19,7 +21,7 @@ failed_mark_events =
 -- The commands of these writes.
 abbrev pub failed_mark_commands : List Command
 failed_mark_commands =
-    command_at 1 (first_lane 0) (WriteAt 0 (sector_of 170)) ∷ command_at 2 (first_lane 1) (WriteAt 8 (sector_of 187)) ∷ []
+    command_at 1 (first_lane 0) (Write 0 (sector_of 170)) ∷ command_at 2 (first_lane 1) (Write 8 (sector_of 187)) ∷ []
 
 -- A write that is cut.
 abbrev pub cut_events : List Event
@@ -28,7 +30,7 @@ cut_events =
 
 -- The command of this write.
 abbrev pub cut_commands : List Command
-cut_commands = command_at 1 (first_lane 0) (WriteAt 0 (sector_of 170)) ∷ []
+cut_commands = command_at 1 (first_lane 0) (Write 0 (sector_of 170)) ∷ []
 
 -- A write that is cut, a checkpoint that can't resolve it and keeps the era, and one that resolves it and moves the era.
 abbrev pub resolved_events : List Event
@@ -47,7 +49,7 @@ early_switch_events =
 -- The commands of this session.
 abbrev pub resolved_commands : List Command
 resolved_commands =
-    command_at 1 (first_lane 0) (WriteAt 0 (sector_of 170)) ∷ command_at 2 (first_lane 1) (Ask Checkpoint)
+    command_at 1 (first_lane 0) (Write 0 (sector_of 170)) ∷ command_at 2 (first_lane 1) (Ask Checkpoint)
     ∷ command_at 3 (first_lane 2) (Ask Checkpoint) ∷ []
 
 -- A snapshot is taken, refused a second time, told by a status, and listed after a write; then it is dropped, and dropping and listing it are refused.
@@ -70,10 +72,10 @@ early_refusal_events =
 abbrev pub snapshot_commands : List Command
 snapshot_commands =
     command_at 1 (first_lane 0) (Ask TakeSnap) ∷ command_at 2 (first_lane 1) (Ask TakeSnap)
-    ∷ command_at 3 (first_lane 2) (Ask TellStatus) ∷ command_at 4 (first_lane 3) (WriteAt 0 (sector_of 170))
-    ∷ command_at 5 (first_lane 4) (Ask (ListSince 1 true)) ∷ command_at 6 (first_lane 5) (Ask (ListSince 1 false))
+    ∷ command_at 3 (first_lane 2) (Ask StatusRequest) ∷ command_at 4 (first_lane 3) (Write 0 (sector_of 170))
+    ∷ command_at 5 (first_lane 4) (Ask (ListRequest 1 true)) ∷ command_at 6 (first_lane 5) (Ask (ListRequest 1 false))
     ∷ command_at 7 (first_lane 6) (Ask DropSnap) ∷ command_at 8 (first_lane 7) (Ask DropSnap)
-    ∷ command_at 9 (first_lane 8) (Ask (ListSince 1 true)) ∷ []
+    ∷ command_at 9 (first_lane 8) (Ask (ListRequest 1 true)) ∷ []
 
 -- The history of the session after `failed_mark_events`.
 abbrev pub failed_mark_history : List Happening

@@ -5,8 +5,10 @@ use Rattle.era_model.specs.declared.history.Happening.{Happening}
 use Rattle.era_model.specs.declared.journal.Journal.{Journal}
 use Rattle.era_model.specs.declared.event.Event.TheVariants.{Tried, Mark, Go, Done, Read, Roll, Kept, List as ListEvent, Status}
 use Rattle.era_base.specs.declared.ids.CmdId.{CmdId}
-use Rattle.era_model.specs.Commands.{Command, Round, WriteAt, ReadAt, Ask, Checkpoint, TellStatus, ListSince}
-use Rattle.era_model.specs.SessionRun.{commands_of}
+use Rattle.era_model.specs.declared.command.Command.{Command}
+use Rattle.era_model.specs.declared.command.Request.TheVariants.{Checkpoint, Status as StatusRequest, List as ListRequest}
+use Rattle.era_model.specs.declared.command.Task.TheVariants.{Write, Read as ReadTask, Ask}
+use Rattle.era_model.specs.Commands.{Round, round_of}
 use Rattle.era_model.specs.Rows.{command_at, first_lane, history_of, journal_of, sector_of, small_opening, text_of, zeros}
 
 -- A write of one sector to a block that isn't marked: its request, its mark, the write, and its acknowledgement.
@@ -24,8 +26,8 @@ listed_events =
 -- The commands of these lists.
 abbrev pub listed_commands : List Command
 listed_commands =
-    command_at 1 (first_lane 0) (WriteAt 0 (sector_of 170)) ∷ command_at 2 (first_lane 1) (Ask (ListSince 1 false))
-    ∷ command_at 3 (first_lane 2) (Ask (ListSince 2 false)) ∷ command_at 4 (first_lane 3) (Ask (ListSince 0 false)) ∷ []
+    command_at 1 (first_lane 0) (Write 0 (sector_of 170)) ∷ command_at 2 (first_lane 1) (Ask (ListRequest 1 false))
+    ∷ command_at 3 (first_lane 2) (Ask (ListRequest 2 false)) ∷ command_at 4 (first_lane 3) (Ask (ListRequest 0 false)) ∷ []
 
 -- The events of two writes to one block.
 abbrev pub two_writes : List Event
@@ -47,8 +49,8 @@ early_write_events =
 -- The commands of these writes and the read.
 abbrev pub read_back_commands : List Command
 read_back_commands =
-    command_at 1 (first_lane 0) (WriteAt 0 (sector_of 170)) ∷ command_at 2 (first_lane 1) (WriteAt 1 (sector_of 187))
-    ∷ command_at 3 (first_lane 2) (ReadAt 0 2) ∷ []
+    command_at 1 (first_lane 0) (Write 0 (sector_of 170)) ∷ command_at 2 (first_lane 1) (Write 1 (sector_of 187))
+    ∷ command_at 3 (first_lane 2) (ReadTask 0 2) ∷ []
 
 -- So many checkpoints that each move the era, the first of them to the era 2 by the command of number 1.
 abbrev pub checkpoints : ℕ → List Event
@@ -71,9 +73,9 @@ checkpoint_commands (suc count) =
 -- The commands of this session.
 abbrev pub merged_commands : List Command
 merged_commands =
-    command_at 1 (first_lane 0) (WriteAt 24 (sector_of 170)) ∷ checkpoint_commands 17
-    ++ command_at 19 (first_lane 18) (Ask TellStatus) ∷ command_at 20 (first_lane 19) (Ask (ListSince 1 false))
-    ∷ command_at 21 (first_lane 20) (Ask (ListSince 2 false)) ∷ []
+    command_at 1 (first_lane 0) (Write 24 (sector_of 170)) ∷ checkpoint_commands 17
+    ++ command_at 19 (first_lane 18) (Ask StatusRequest) ∷ command_at 20 (first_lane 19) (Ask (ListRequest 1 false))
+    ∷ command_at 21 (first_lane 20) (Ask (ListRequest 2 false)) ∷ []
 
 -- The command of lane 1 with the number 0.
 abbrev pub second_lane : CmdId
@@ -88,13 +90,9 @@ kept_events =
 -- The rounds of this session: the second write and the checkpoint of the other lane are in one.
 abbrev pub kept_rounds : List Round
 kept_rounds =
-    (command_at 1 (first_lane 0) (WriteAt 0 (sector_of 170)) ∷ [])
-    ∷ (command_at 3 (first_lane 1) (WriteAt 0 (sector_of 187)) ∷ command_at 4 second_lane (Ask Checkpoint) ∷ [])
-    ∷ (command_at 6 (first_lane 2) (Ask Checkpoint) ∷ []) ∷ []
-
--- The commands of this session.
-abbrev pub kept_commands : List Command
-kept_commands = commands_of kept_rounds
+    round_of (command_at 1 (first_lane 0) (Write 0 (sector_of 170)) ∷ [])
+    ∷ round_of (command_at 3 (first_lane 1) (Write 0 (sector_of 187)) ∷ command_at 4 second_lane (Ask Checkpoint) ∷ [])
+    ∷ round_of (command_at 6 (first_lane 2) (Ask Checkpoint) ∷ []) ∷ []
 
 -- The replies to so many checkpoints, the first of them on line 2 with the place 4.
 abbrev pub checkpoint_lines : ℕ → List (List ℕ)

@@ -1,4 +1,4 @@
--- Runs of a stream's commands: what each command may draw, and the order of each lane.
+-- Runs of a stream's commands: what each command may draw, and the order of each lane and of the rounds.
 use Rattle.std.specs.Prelude.{◌≡◌, ◌⊎◌, ℕ, ◌/◌, ◌<◌, ◌||◌, Bool, true, false, List, [], ◌∷◌, ◌++◌, length, map, Option, None}
 use Rattle.era_base.specs.Geometry.{place_at}
 use Rattle.era_base.specs.declared.ids.CmdId.{CmdId}
@@ -10,7 +10,12 @@ use Rattle.era_model.specs.declared.history.Happening.{Happening}
 use Rattle.era_model.specs.declared.history.Happening.TheVariants.{Opened, Happened, Crashed}
 use Rattle.era_model.specs.Events.{same_id, drawn_by}
 use Rattle.era_model.specs.History.{at_opening}
-use Rattle.era_model.specs.Commands.{Command, Round, Task, WriteAt, ReadAt, Ask, Request, Checkpoint, TakeSnap, DropSnap, DigestStep, TellStatus, ListSince, events_of}
+use Rattle.era_model.specs.declared.command.Command.{Command}
+use Rattle.era_model.specs.declared.command.Request.{Request}
+use Rattle.era_model.specs.declared.command.Request.TheVariants.{Checkpoint, TakeSnap, DropSnap, Digest as DigestRequest, Status as StatusRequest, List as ListRequest}
+use Rattle.era_model.specs.declared.command.Task.{Task}
+use Rattle.era_model.specs.declared.command.Task.TheVariants.{Write, Read, Ask}
+use Rattle.era_model.specs.Commands.{Round, commands_in, commands_of, events_of}
 use Rattle.era_model.specs.CommandEvents.{IsMetaFault, AreWriteEvents, AreReadEvents, AreCheckpointEvents}
 
 -- The events of taking a snapshot: it is taken, one is held already, or the metadata disk failed.
@@ -51,9 +56,9 @@ abbrev pub AreRequestEvents : List Happening → CmdId → Request → List Even
 AreRequestEvents h id Checkpoint events = AreCheckpointEvents h id events
 AreRequestEvents h id TakeSnap events = AreTakeEvents id events
 AreRequestEvents h id DropSnap events = AreDropEvents id events
-AreRequestEvents h id DigestStep events = AreDigestEvents id events
-AreRequestEvents h id TellStatus events = AreStatusEvents id events
-AreRequestEvents h id (ListSince since snap) events = AreListEvents id since snap events
+AreRequestEvents h id DigestRequest events = AreDigestEvents id events
+AreRequestEvents h id StatusRequest events = AreStatusEvents id events
+AreRequestEvents h id (ListRequest since snap) events = AreListEvents id since snap events
 
 -- The block of so many sectors from a sector on of the session's origin, and the first sector within it, or none.
 abbrev pub place_now : List Happening → ℕ → ℕ → Option (ℕ × ℕ)
@@ -62,8 +67,8 @@ place_now h sector count =
 
 -- The events of a command that does this task.
 abbrev pub AreTaskEvents : List Happening → CmdId → Task → List Event → Type 0
-AreTaskEvents h id (WriteAt sector bytes) events = AreWriteEvents h id bytes (place_now h sector (length bytes / 512)) events
-AreTaskEvents h id (ReadAt sector count) events = AreReadEvents h id sector count (place_now h sector count) events
+AreTaskEvents h id (Write sector bytes) events = AreWriteEvents h id bytes (place_now h sector (length bytes / 512)) events
+AreTaskEvents h id (Read sector count) events = AreReadEvents h id sector count (place_now h sector count) events
 AreTaskEvents h id (Ask request) events = AreRequestEvents h id request events
 
 -- The events without their places.
@@ -112,13 +117,25 @@ abbrev pub KeepsLanes : List Happening → List Command → Type 0
 KeepsLanes h [] = Unit {0}
 KeepsLanes h (command ∷ commands) = StandsBefore h command commands × KeepsLanes h commands
 
--- The commands of all rounds, in order.
-abbrev pub commands_of : List Round → List Command
-commands_of [] = []
-commands_of (round ∷ rounds) = round ++ commands_of rounds
+-- The events of each of the commands stand before those of a later one.
+abbrev pub AllStandBefore : List Happening → List Command → Command → Type 0
+AllStandBefore h [] later = Unit {0}
+AllStandBefore h (command ∷ commands) later =
+    AllBefore (events_of h command.id) (events_of h later.id) × AllStandBefore h commands later
 
--- The session ran the rounds: each event is of one of their commands, each command has events that it may have, and each lane's order is kept.
+-- The events of the first commands all stand before those of the later ones.
+abbrev pub AreParted : List Happening → List Command → List Command → Type 0
+AreParted h first [] = Unit {0}
+AreParted h first (command ∷ later) = AllStandBefore h first command × AreParted h first later
+
+-- The places of each round are above those of every earlier round.
+abbrev pub KeepsRounds : List Happening → List Round → Type 0
+KeepsRounds h [] = Unit {0}
+KeepsRounds h (round ∷ rounds) = AreParted h (commands_in round) (commands_of rounds) × KeepsRounds h rounds
+
+-- The session ran the rounds: each event is of one of their commands, each command has events that it may have, each lane's order is kept, and each round is behind the ones before it.
 pub record IsRun (h : List Happening) (rounds : List Round) : Type 0 where
   pub drawn : AreAllDrawnBy (commands_of rounds) h
   pub events : HaveTheirEvents h (commands_of rounds)
   pub lanes : KeepsLanes h (commands_of rounds)
+  pub borders : KeepsRounds h rounds

@@ -6,7 +6,11 @@ use Rattle.era_base.specs.declared.geometry.Geometry.{Geometry}
 use Rattle.era_model.specs.declared.history.Happening.{Happening}
 use Rattle.era_model.specs.declared.reply.Answer.{Answer}
 use Rattle.era_model.specs.declared.reply.Answer.TheVariants.{Blocks, Memory}
-use Rattle.era_model.specs.Commands.{Command, Task, WriteAt, Ask, Checkpoint, ListSince, events_of, answer_of}
+use Rattle.era_model.specs.declared.command.Command.{Command}
+use Rattle.era_model.specs.declared.command.Request.TheVariants.{Checkpoint, List as ListRequest}
+use Rattle.era_model.specs.declared.command.Task.{Task}
+use Rattle.era_model.specs.declared.command.Task.TheVariants.{Write, Ask}
+use Rattle.era_model.specs.Commands.{events_of, answer_of}
 
 -- Whether a task is a checkpoint.
 abbrev pub is_checkpoint : Task → Bool
@@ -19,7 +23,7 @@ era_behind before = sum_by (λ command. if is_checkpoint command.task then 1 els
 
 -- The block to which a task writes, none where it writes nothing in range.
 abbrev pub block_written : Geometry → Task → Option ℕ
-block_written g (WriteAt sector bytes) = option_map (λ place. place.0) (place_at g.sectors g.block_sectors sector (length bytes / 512))
+block_written g (Write sector bytes) = option_map (λ place. place.0) (place_at g.sectors g.block_sectors sector (length bytes / 512))
 block_written g task = None
 
 -- Among the commands there is a write in range to the block, in an era of at least that one. Era 0 means the same as 1.
@@ -45,5 +49,5 @@ IsListAnswer g before since answer = ⊥
 -- Each list among the commands is answered so.
 abbrev pub ListsNameWritten : Geometry → List Happening → List Command → Type 0
 ListsNameWritten g h commands =
-    (before after : List Command) (list : Command) (since : ℕ) → commands ≡ before ++ list ∷ after → list.task ≡ Ask (ListSince since false)
+    (before after : List Command) (list : Command) (since : ℕ) → commands ≡ before ++ list ∷ after → list.task ≡ Ask (ListRequest since false)
     → IsListAnswer g before since (answer_of (events_of h list.id))

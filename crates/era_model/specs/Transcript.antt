@@ -1,8 +1,9 @@
--- The text that a session writes, as a function of its history and its commands.
+-- The text that a session writes, as a function of its history and its rounds.
 use Rattle.std.specs.Prelude.{ℕ, ◌==◌, List, [], ◌∷◌, ◌++◌, Option, Some, None, codes, decimal, if◌then◌else◌}
 use Rattle.hex.specs.Hex.{encode_lower}
 use Rattle.era_base.specs.Geometry.{blocks_of}
 use Rattle.era_base.specs.declared.geometry.Geometry.{Geometry}
+use Rattle.era_model.specs.declared.command.Command.{Command}
 use Rattle.era_model.specs.declared.event.Event.{Event}
 use Rattle.era_model.specs.declared.reply.Answer.{Answer}
 use Rattle.era_model.specs.declared.reply.Answer.TheVariants.{Fine, Range, Fault, Found, EraIs, Kept, End, Snap, Held, NoSnap, Digest, Idle, Status, Blocks, Memory}
@@ -11,7 +12,7 @@ use Rattle.era_model.specs.declared.reply.Device.TheVariants.{Data, Meta}
 use Rattle.era_model.specs.declared.history.Happening.{Happening}
 use Rattle.era_model.specs.Events.{letter_of}
 use Rattle.era_model.specs.History.{at_opening, era_of, next_place}
-use Rattle.era_model.specs.Commands.{Command, events_of, answer_of}
+use Rattle.era_model.specs.Commands.{Round, digest_command, events_of, answer_of}
 
 -- Why a session stopped: its stream was read to the end, a line was refused for a reason, the source failed with this count of faults, or memory was refused.
 pub data Stop : Type 0 where
@@ -89,6 +90,21 @@ abbrev pub replies_text : List Happening → List Command → List ℕ
 replies_text h [] = []
 replies_text h (command ∷ commands) = reply_line command.line (events_of h command.id) ++ replies_text h commands
 
+-- The line of a command of the digest worker, with a dash in the place of a line's number.
+abbrev pub digest_line : List (ℕ × Event) → List ℕ
+digest_line events = codes "- " ++ answer_text (answer_of events) ++ trail_text events ++ 10 ∷ []
+
+-- The lines of the digest worker's commands with these numbers, in their order.
+abbrev pub digests_text : List Happening → List ℕ → List ℕ
+digests_text h [] = []
+digests_text h (number ∷ numbers) = digest_line (events_of h (digest_command number).id) ++ digests_text h numbers
+
+-- The lines of rounds: the replies of each of them, and then those of its digest worker.
+abbrev pub rounds_text : List Happening → List Round → List ℕ
+rounds_text h [] = []
+rounds_text h (round ∷ rounds) =
+    replies_text h round.commands ++ digests_text h round.digests ++ rounds_text h rounds
+
 -- The line of a stop, none where the stream was read to its end.
 abbrev pub stop_line : Stop → List ℕ
 stop_line ReadToEnd = []
@@ -97,10 +113,10 @@ stop_line (SourceFault count) = codes "fault source " ++ decimal count ++ 10 ∷
 stop_line NoMemory = codes "memory" ++ 10 ∷ []
 
 -- The text of a session but for its last line.
-abbrev pub unended_transcript : List Happening → List Command → Stop → List ℕ
-unended_transcript h commands stop =
-    at_opening [] (λ opening. open_line opening.geometry opening.era) h ++ replies_text h commands ++ stop_line stop
+abbrev pub unended_transcript : List Happening → List Round → Stop → List ℕ
+unended_transcript h rounds stop =
+    at_opening [] (λ opening. open_line opening.geometry opening.era) h ++ rounds_text h rounds ++ stop_line stop
 
 -- The whole text of a session.
-abbrev pub session_transcript : List Happening → List Command → Stop → List ℕ
-session_transcript h commands stop = unended_transcript h commands stop ++ end_line (era_of h) (next_place h)
+abbrev pub session_transcript : List Happening → List Round → Stop → List ℕ
+session_transcript h rounds stop = unended_transcript h rounds stop ++ end_line (era_of h) (next_place h)

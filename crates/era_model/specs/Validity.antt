@@ -1,5 +1,6 @@
 -- Which marks are valid: those that a dump text may spell.
 use Rattle.std.specs.Prelude.{◌≡◌, ℕ, ◌-◌, ◌<◌, ◌≤◌, List, [], ◌∷◌, length, Option, Some, None}
+use Rattle.era_base.specs.declared.limits.TheConstants.{MOST_SETS}
 use Rattle.era_model.specs.Marks.{ArchivedSet, BlockMarks, blocks_of_marks, entry_of}
 
 -- The archived sets are of so many blocks, and their eras ascend strictly, above one era and below another.
@@ -19,7 +20,7 @@ pub record AreValidMarks (m : BlockMarks) : Type 0 where
   pub array_size : length m.array ≡ blocks_of_marks m
   pub current_size : length m.current ≡ blocks_of_marks m
   pub archive : AreArchivedBetween (blocks_of_marks m) 0 m.era m.archive
-  pub few_sets : length m.archive ≤ 16
+  pub few_sets : length m.archive ≤ MOST_SETS
   pub entries : (block : ℕ) → entry_of m.array block ≤ entry_limit m.archive m.era
 
 -- A held snapshot is valid marks, and there may be none.

@@ -14,7 +14,7 @@ use era_base::{Bytes, Memory};
 use std::alloc::Global;
 
 /// So many of the bytes from an offset on, fewer where they end before.
-fn part_of(bytes: &[u8], start: usize, count: usize) -> &[u8]
+pub fn part_of(bytes: &[u8], start: usize, count: usize) -> &[u8]
     ensures { result.now ≡ part start count bytes.now }
 {
     let behind = bytes.split_at(start.min(bytes.len())).1;
@@ -54,7 +54,8 @@ fn content_after(
     write: Option<&FlightWrite>,
     bytes: &[u8],
 ) -> Result<Bytes, Memory>
-    ensures { IfOk result (λ b. b ≡ content_after_write before block (option_copied write.entry) bytes.now) }
+    ensures { IfOk result (λ b. b ≡ content_after_write before block
+        (option_copied write.entry) bytes.now) }
 {
     match write {
         Some(write) => {

@@ -1,9 +1,10 @@
 //! Runs of the blocks that pass a test.
 
 ghost use Rattle.std.specs.Prelude.{◌≡◌, ◌≤◌, ◌<◌, ◌||◌, ◌&&◌, ℕ, nat_lt, nat_le, length, IfOk, OnOk};
+ghost use Rattle.era_base.specs.Flags.{has};
+ghost use Rattle.era_base.specs.declared.limits.TheConstants.{MOST_BLOCKS};
 ghost use Rattle.era_base.specs.Runs.{EndsBefore, runs_cover};
 ghost use Rattle.era_model.specs.Conditions.{ListsExactly};
-ghost use Rattle.era_model.specs.Marks.{has};
 
 use era_base::{Memory, Runs};
 use std::alloc::Global;
@@ -12,7 +13,8 @@ use std::alloc::Global;
 fn add_blocks(runs: &mut Runs, first: u32, end: u32) -> Result<(), Memory>
     requires behind { EndsBefore runs.old first }
     ensures added { OnOk result ((block : ℕ)
-        → runs_cover runs.new block ≡ (runs_cover runs.old block || (nat_le first block && nat_lt block end))) }
+        → runs_cover runs.new block
+        ≡ (runs_cover runs.old block || (nat_le first block && nat_lt block end))) }
     ensures ends { (next : ℕ) → first < next → end < next → OnOk result (EndsBefore runs.new next) }
 {
     if first < end {
@@ -23,7 +25,7 @@ fn add_blocks(runs: &mut Runs, first: u32, end: u32) -> Result<(), Memory>
 
 /// The runs of the blocks whose flag is set.
 pub fn runs_of_flags(alloc: Global, flags: &[bool]) -> Result<Runs, Memory>
-    requires { length flags.now ≤ 65536 }
+    requires { length flags.now ≤ MOST_BLOCKS }
     ensures { IfOk result (λ runs. ListsExactly (length flags.now) (has flags.now) runs) }
 {
     let mut runs = Runs::new(alloc);

@@ -1,6 +1,7 @@
-//! An event with its place.
+//! Events with their places.
 
 use crate::event::Event;
+use era_base::Items;
 
 /// An event, and the number that it drew.
 #[derive(Debug, Drop)]
@@ -8,3 +9,6 @@ pub struct Entry {
     pub place: u64,
     pub event: Event,
 }
+
+/// Entries in order.
+pub type EntryList = Items<Entry>;

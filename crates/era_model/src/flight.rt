@@ -38,7 +38,8 @@ fn take_out(writes: &mut Vec<FlightWrite>, id: CmdId)
 
 /// Marks the write as cut, if it is the command's.
 fn mark_if_of(write: &mut FlightWrite, id: CmdId)
-    ensures { write.new ≡ (if same_id write.old.id id then record write.old { cut = true } else write.old) }
+    ensures { write.new
+        ≡ (if same_id write.old.id id then record write.old { cut = true } else write.old) }
 {
     if same_command(write.id, id) {
         write.cut = true;

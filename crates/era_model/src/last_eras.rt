@@ -21,7 +21,7 @@ pub fn is_covered(runs: &[(u32, u32)], block: u32) -> bool
 }
 
 /// The era of the run in which the block lies, 0 where it lies in none.
-fn run_era(runs: &[(u32, u32, u32)], block: u32) -> u32
+pub fn run_era(runs: &[(u32, u32, u32)], block: u32) -> u32
     ensures { result ≡ era_in_runs runs.now block }
 {
     for run in runs {
@@ -41,7 +41,8 @@ fn era_if_covered(runs: &[(u32, u32)], era: u32, block: u32) -> u32
 
 /// The greatest era of the sets that have the block, 0 where none has it.
 fn last_set_era(sets: &[MarkedSet], block: u32) -> u32
-    ensures { (blocks : ℕ) → block < blocks → result ≡ last_archived (sets_of_runs blocks sets.now) block }
+    ensures { (blocks : ℕ) → block < blocks → result
+        ≡ last_archived (sets_of_runs blocks sets.now) block }
 {
     let mut last = 0;
     for set in sets {

@@ -1,6 +1,6 @@
-//! An archived write set.
+//! The archived write sets.
 
-use era_base::Runs;
+use era_base::{Items, Runs};
 
 /// The blocks that were marked in an era that has ended.
 #[derive(Debug, Drop)]
@@ -8,3 +8,6 @@ pub struct MarkedSet {
     pub era: u32,
     pub blocks: Runs,
 }
+
+/// Archived sets, the oldest first.
+pub type SetList = Items<MarkedSet>;

@@ -5,7 +5,7 @@ ghost use Rattle.era_model.specs.Marks.{BlockMarks};
 ghost use Rattle.era_model.specs.MarkRuns.{AreWithin, marks_of_runs};
 
 use crate::era_runs::EraRuns;
-use crate::set_list::SetList;
+use crate::marked_set::SetList;
 use era_base::{Geometry, Runs};
 use std::marker::Model;
 

@@ -24,7 +24,8 @@ pub fn content_at(alloc: Global, journal: &Journal, place: u64, block: u32) -> R
     requires told { TellsAllBytes journal.now.opening }
     requires within { place ≤ length journal.now.entries }
     requires block { block < blocks_at journal.now.opening }
-    ensures { IfOk result (λ b. b ≡ content (history_at journal.now.opening journal.now.entries place) block) }
+    ensures { IfOk result (λ b. b
+        ≡ content (history_at journal.now.opening journal.now.entries place) block) }
 {
     let mut bytes = opening_content(alloc, &journal.opening, block)?;
     let mut writes = Vec::new(alloc);
@@ -71,7 +72,8 @@ fn start_of(journal: &Journal, place: usize, era: u32) -> Option<usize>
 
 /// The start that was found before, else this place if the era has begun there.
 fn first_start(before: Option<usize>, place: usize, begun: bool) -> Option<usize>
-    ensures { MatchOption before (result ≡ (if begun then Some place else None)) (λ start. result ≡ Some start) }
+    ensures { MatchOption before (result ≡ (if begun then Some place else None)) (λ start. result
+        ≡ Some start) }
 {
     match before {
         Some(start) => Some(start),
@@ -81,7 +83,8 @@ fn first_start(before: Option<usize>, place: usize, begun: bool) -> Option<usize
 
 /// Whether the event asks for the block's mark in the era or a later one, or this was so before.
 pub fn follow_asked(asked: bool, event: &Event, era: u32, block: u32) -> bool
-    ensures { (h : List Happening) → asked ≡ asked_since h era block → result ≡ asked_since (Happened event.now ∷ h) era block }
+    ensures { (h : List Happening) → asked ≡ asked_since h era block
+        → result ≡ asked_since (Happened event.now ∷ h) era block }
 {
     match event {
         Event::Tried {
@@ -96,7 +99,8 @@ pub fn follow_asked(asked: bool, event: &Event, era: u32, block: u32) -> bool
 /// Whether the block's mark was asked for since the era, up to a place.
 fn is_asked(journal: &Journal, place: usize, era: u32, block: u32) -> bool
     requires { place ≤ length journal.now.entries }
-    ensures { result ≡ asked_since (history_at journal.now.opening journal.now.entries place) era block }
+    ensures { result ≡ asked_since (history_at journal.now.opening journal.now.entries place) era
+        block }
 {
     let mut asked = era.max(1) <= journal.opening.marks.last_era(block);
     for entry in journal.entries.as_slice().split_at(place).0 {
@@ -111,7 +115,8 @@ pub fn changed_since(alloc: Global, journal: &Journal, place: u64, era: u32) -> 
     requires told { TellsAllBytes journal.now.opening }
     requires within { place ≤ length journal.now.entries }
     ensures { let h = history_at journal.now.opening journal.now.entries place in
-        IfOk result (λ runs. ListsExactly (blocks_at journal.now.opening) (has_changed_since h era) runs) }
+        IfOk result (λ runs. ListsExactly (blocks_at journal.now.opening)
+        (has_changed_since h era) runs) }
 {
     let Some(start) = start_of(journal, place as usize, era) else {
         return Ok(Runs::new(alloc));
@@ -131,7 +136,8 @@ pub fn asked_since(alloc: Global, journal: &Journal, place: u64, era: u32) -> Re
     requires told { TellsAllBytes journal.now.opening }
     requires within { place ≤ length journal.now.entries }
     ensures { let h = history_at journal.now.opening journal.now.entries place in
-        IfOk result (λ runs. ListsExactly (blocks_at journal.now.opening) (asked_since h era) runs) }
+        IfOk result (λ runs. ListsExactly (blocks_at journal.now.opening)
+        (asked_since h era) runs) }
 {
     let mut flags = Vec::new(alloc);
     for block in 0..journal.opening.geometry.blocks() {

@@ -1,13 +1,12 @@
 //! What holds over all sessions in a row, with their crashes and reopenings. The functions do nothing; their clauses
 //! are the laws.
 
-ghost use Rattle.std.specs.Prelude.{◌≡◌, ◌++◌, ℕ, List, [], ◌∷◌, Option, Some, replicate, true};
+ghost use Rattle.std.specs.Prelude.{◌≡◌, ◌++◌, ℕ, ◌≤◌, List, [], ◌∷◌, replicate, true};
 ghost use Rattle.era_model.specs.Chains.{IsMoment, IsSessionChain};
 ghost use Rattle.era_model.specs.Crashes.{MayCrash, MayEnd};
-ghost use Rattle.era_model.specs.Digest.{digest_of, digested};
 ghost use Rattle.era_model.specs.History.{content, is_open};
 ghost use Rattle.era_model.specs.Legal.{IsLegal};
-ghost use Rattle.era_model.specs.Marking.{held_of, marks_of};
+ghost use Rattle.era_model.specs.Marking.{held_of, is_marked_in, journal_last_era, marks_of};
 ghost use Rattle.era_model.specs.Marks.{BlockMarks, marks_last_era, rolled};
 ghost use Rattle.era_model.specs.Merging.{merged_marks};
 ghost use Rattle.era_model.specs.Promises.{CoverageGoesOn, KeepsLastEras, MarksFollowJournal, NoChangedBlockMissed, NoUnaskedBlockListed};
@@ -24,16 +23,20 @@ pub fn moments_are_legal()
 {}
 
 /// The marks of a legal journal are valid, and have its era and each block's last marked era. As they stand they are
-/// durable, so they may be recovered. An era switch with its merge of the oldest set, a digest step, and a merge of all
-/// sets keep each block's last marked era.
+/// durable, so they may be recovered. An era switch with its merge of the oldest set, and a merge of all sets, keep each
+/// block's last marked era.
 pub fn marks_follow_journal()
     ensures journal { (h : List Happening) → IsLegal h → is_open h ≡ true → MarksFollowJournal h }
     ensures durable { (h : List Happening) → IsLegal h → is_open h ≡ true
         → IsDurableFrom h (marks_of h) (held_of h) }
     ensures switch { (m : BlockMarks) → AreValidMarks m → KeepsLastEras m (rolled m) }
-    ensures digest { (m : BlockMarks) (era : ℕ) (page : Option ℕ) → AreValidMarks m
-        → digest_of m.archive m.array ≡ Some (era, page) → KeepsLastEras m (digested m page) }
     ensures merge { (m : BlockMarks) → AreValidMarks m → KeepsLastEras m (merged_marks m) }
+{}
+
+/// A block that a legal journal has marked in an era has that era or a later one as its last.
+pub fn marks_are_kept()
+    ensures { (h : List Happening) (block era : ℕ) → IsLegal h → is_marked_in h block era ≡ true
+        → era ≤ journal_last_era h block }
 {}
 
 /// Over all sessions, at every moment: all marks that may be recovered list each block that has changed since an era,

@@ -3,4 +3,3 @@ pub mod LineSteps
 pub mod RoundSteps
 pub mod ReadSteps
 pub mod SourceSteps
-pub mod ModelSteps

@@ -5,7 +5,7 @@ use Rattle.std.proofs.lemmas.List.{append_assoc, append-nil, take-append-drop, n
 use Rattle.era_base.specs.Streams.{Takes}
 use Rattle.era_plan.specs.Rounds.{HasRead}
 use Rattle.era_plan.specs.Inside.{HasTaken}
-use Rattle.era_plan.specs.declared.task.Task.{Task}
+use Rattle.era_model.specs.declared.command.Command.{Command}
 use Rattle.era_plan.proofs.ReadSteps.{HasRead-start}
 
 -- what holds in any case holds where a call answers Ok
@@ -27,7 +27,7 @@ pub HasTaken-start : (before : Option (List ℕ)) → HasTaken before before [] 
 HasTaken-start before = record { text = []; read = HasRead-start; joined = λ whole told. record { rest = whole; left = told; joined = refl } }
 
 -- bytes more were taken
-pub HasTaken-more : (before now after : Option (List ℕ)) (commands new : List Task) (line rest buffer piece : List ℕ) (count : ℕ)
+pub HasTaken-more : (before now after : Option (List ℕ)) (commands new : List Command) (line rest buffer piece : List ℕ) (count : ℕ)
     → HasTaken before now commands line → ((bytes : List ℕ) → now ≡ Some bytes → Takes bytes after buffer count) → piece ≡ take count buffer
     → ((text : List ℕ) → HasRead text commands line → HasRead (text ++ piece) new rest) → HasTaken before after new rest
 HasTaken-more before now after commands new line rest buffer piece count taken takes front fed =
@@ -45,7 +45,7 @@ HasTaken-more before now after commands new line rest buffer piece count taken t
     }
 
 -- the whole was read
-pub record HasEnded (whole : List ℕ) (after : Option (List ℕ)) (commands : List Task) (line : List ℕ) : Type 0 where
+pub record HasEnded (whole : List ℕ) (after : Option (List ℕ)) (commands : List Command) (line : List ℕ) : Type 0 where
   pub read : HasRead whole commands line
   pub left : after ≡ Some []
 
@@ -55,7 +55,7 @@ none_left zero count none some = refl
 none_left (suc left) count none some = let one : 0 < count = some (omega arith) in absurd (omega arith)
 
 -- nothing more could be taken
-pub HasTaken-end : (before now after : Option (List ℕ)) (commands : List Task) (line buffer : List ℕ) (count : ℕ)
+pub HasTaken-end : (before now after : Option (List ℕ)) (commands : List Command) (line buffer : List ℕ) (count : ℕ)
     → HasTaken before now commands line → ((bytes : List ℕ) → now ≡ Some bytes → Takes bytes after buffer count) → count ≡ 0 → 0 < length buffer
     → (whole : List ℕ) → before ≡ Some whole → HasEnded whole after commands line
 HasTaken-end before now after commands line buffer count taken takes none room whole told =

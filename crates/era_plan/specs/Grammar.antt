@@ -1,12 +1,11 @@
 -- The lines of a text, and the tasks that they spell.
-use Rattle.std.specs.Prelude.{◌≡◌, ◌≢◌, ℕ, ◌%◌, ◌<◌, ◌≤◌, ◌^◌, ◌==◌, if◌then◌else◌, List, [], ◌∷◌, ◌++◌, length, codes, decimal, All, sum_by, Ok}
-use Rattle.std.specs.List.{AllZip}
+use Rattle.std.specs.Prelude.{◌≡◌, ℕ, ◌+◌, ◌*◌, ◌%◌, ◌<◌, ◌≤◌, ◌^◌, ◌==◌, if◌then◌else◌, false, List, [], ◌∷◌, ◌++◌, length, codes, decimal, sum_by, Ok}
 use Rattle.hex.specs.Hex.{decode_of}
-use Rattle.era_plan.specs.declared.task.Request.{Request}
-use Rattle.era_plan.specs.declared.task.Request.TheVariants.{Checkpoint, ListSince}
-use Rattle.era_plan.specs.declared.task.Task.{Task}
-use Rattle.era_plan.specs.declared.task.Task.TheVariants.{Write as WriteTask, Ask}
-use Rattle.era_plan.specs.declared.task.Write.{Write}
+use Rattle.era_model.specs.declared.command.Command.{Command}
+use Rattle.era_model.specs.declared.command.Request.{Request}
+use Rattle.era_model.specs.declared.command.Request.TheVariants.{Checkpoint, List as ListRequest}
+use Rattle.era_model.specs.declared.command.Task.{Task}
+use Rattle.era_model.specs.declared.command.Task.TheVariants.{Write, Read, Ask}
 
 -- A byte in front of a text with these lines: an LF ends an empty line there, any other byte begins the first of them.
 abbrev pub byte_before : ℕ → List (List ℕ) → List (List ℕ)
@@ -31,41 +30,53 @@ pub record IsPayload (count : ℕ) : Type 0 where
   pub most : count ≤ 65536
 
 -- A line spells a write: a 0, the word `write`, the sector as a decimal, and the bytes as hexadecimal digits, with single spaces between them.
-pub record SpellsWrite (line : List ℕ) (write : Write) : Type 0 where
+pub record SpellsWrite (line : List ℕ) (sector : ℕ) (bytes : List ℕ) : Type 0 where
   pub digits : List ℕ
-  pub text : line ≡ codes "0 write " ++ (decimal write.sector ++ 32 ∷ digits)
-  pub sector : write.sector < 2 ^ 64
-  pub bytes : decode_of digits ≡ Ok write.bytes
-  pub payload : IsPayload (length write.bytes)
+  pub text : line ≡ codes "0 write " ++ (decimal sector ++ 32 ∷ digits)
+  pub sector_fits : sector < 2 ^ 64
+  pub spelled : decode_of digits ≡ Ok bytes
+  pub payload : IsPayload (length bytes)
 
--- A line spells a request of lane 0: a 0 and the word `checkpoint`, or a 0, the word `list` and the era as a decimal of 32 bits, with single spaces between them.
+-- A line spells a request of lane 0: a 0 and the word `checkpoint`, or a 0, the word `list` and the era as a decimal of 32 bits, with single spaces between them. No other request is served yet.
 abbrev pub SpellsRequest : List ℕ → Request → Type 0
 SpellsRequest line Checkpoint = line ≡ codes "0 checkpoint"
-SpellsRequest line (ListSince since) = (line ≡ codes "0 list " ++ decimal since) × (since < 2 ^ 32)
+SpellsRequest line (ListRequest since false) = (line ≡ codes "0 list " ++ decimal since) × (since < 2 ^ 32)
+SpellsRequest line request = ⊥
 
--- A line spells a task: a write or a request.
+-- A line spells a task: a write or a request. No read is served yet.
 abbrev pub Spells : List ℕ → Task → Type 0
-Spells line (WriteTask write) = SpellsWrite line write
+Spells line (Write sector bytes) = SpellsWrite line sector bytes
+Spells line (Read sector count) = ⊥
 Spells line (Ask request) = SpellsRequest line request
 
--- Lines spell tasks, one task each, in their order.
-abbrev pub SpellEach : List (List ℕ) → List Task → Type 0
-SpellEach lines tasks = AllZip Spells lines tasks
+-- The command with this index in the input: it stands in the line behind that many lines, and is the one of lane 0 with that number.
+abbrev pub command_of : ℕ → Task → Command
+command_of index task = record { line = index + 1; id = record { lane = 0; number = index }; task = task }
 
--- How many bytes a task writes.
+-- A line spells the command with this index in the input.
+pub record SpellsCommand (index : ℕ) (line : List ℕ) (command : Command) : Type 0 where
+  pub numbered : command ≡ command_of index command.task
+  pub spelled : Spells line command.task
+
+-- Lines spell commands, one command each, in their order, the first of them with this index.
+abbrev pub SpellEach : ℕ → List (List ℕ) → List Command → Type 0
+SpellEach index [] [] = Unit {0}
+SpellEach index (line ∷ lines) (command ∷ commands) = SpellsCommand index line command × SpellEach (index + 1) lines commands
+SpellEach index lines commands = ⊥
+
+-- How many bytes a task writes, or asks for by a read.
 abbrev pub payload_of_task : Task → ℕ
-payload_of_task (WriteTask write) = length write.bytes
+payload_of_task (Write sector bytes) = length bytes
+payload_of_task (Read sector count) = count * 512
 payload_of_task (Ask request) = 0
 
--- How many bytes tasks write together.
-abbrev pub payload_of : List Task → ℕ
-payload_of tasks = sum_by payload_of_task tasks
+-- How many bytes commands have together.
+abbrev pub payload_of : List Command → ℕ
+payload_of commands = sum_by (λ command. payload_of_task command.task) commands
 
--- What a task writes, if it writes, is 1 to 128 whole sectors.
-abbrev pub HasPayload : Task → Type 0
-HasPayload (WriteTask write) = IsPayload (length write.bytes)
-HasPayload (Ask request) = Unit {0}
-
--- No byte is a space.
-abbrev pub HasNoSpace : List ℕ → Type 0
-HasNoSpace word = All (λ byte. byte ≢ 32) word
+-- The task is one that is served yet: a write of 1 to 128 whole sectors, a checkpoint, or a list by the marks.
+abbrev pub IsServed : Task → Type 0
+IsServed (Write sector bytes) = IsPayload (length bytes)
+IsServed (Ask Checkpoint) = Unit {0}
+IsServed (Ask (ListRequest since false)) = Unit {0}
+IsServed task = ⊥

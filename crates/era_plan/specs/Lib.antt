@@ -1,4 +1,3 @@
 pub mod Grammar
 pub mod Rounds
 pub mod Inside
-pub mod ModelRounds

@@ -1,34 +1,41 @@
 -- The round that a text spells, and the first line that is refused.
-use Rattle.std.specs.Prelude.{◌≡◌, ℕ, ◌-◌, ◌<◌, ◌≤◌, List, ◌++◌, length, take, All, Option, Some, Result, Ok, Err}
+use Rattle.std.specs.Prelude.{◌≡◌, ℕ, ◌+◌, ◌-◌, ◌<◌, ◌≤◌, List, [], ◌∷◌, ◌++◌, length, take, All, Option, Some, Result, Ok, Err}
 use Rattle.era_base.specs.Faults.{Rose}
-use Rattle.era_plan.specs.Grammar.{lines_of, line_before, SpellEach, HasPayload, payload_of}
-use Rattle.era_plan.specs.declared.task.Task.{Task}
+use Rattle.era_base.specs.declared.limits.TheConstants.{MOST_COMMANDS}
+use Rattle.era_model.specs.declared.command.Command.{Command}
+use Rattle.era_plan.specs.Grammar.{lines_of, line_before, command_of, payload_of, SpellEach, IsServed}
 use Rattle.era_plan.specs.declared.round.LineKind.TheVariants.{NotYet}
 use Rattle.era_plan.specs.declared.round.PlanError.{PlanError}
 use Rattle.era_plan.specs.declared.round.PlanError.TheVariants.{Line, Source, Memory}
 
--- The limits of a round: at most 4,096 commands, 67,108,864 bytes together, and 1 to 128 whole sectors in each write.
-pub record IsWithinLimits (commands : List Task) : Type 0 where
-  pub count : length commands ≤ 4096
-  pub payload : payload_of commands ≤ 67108864
-  pub sizes : All HasPayload commands
+-- Commands are numbered in the order of the input, the first of them with this index.
+abbrev pub AreInOrder : ℕ → List Command → Type 0
+AreInOrder index [] = Unit {0}
+AreInOrder index (command ∷ commands) = (command ≡ command_of index command.task) × AreInOrder (index + 1) commands
 
--- Lines spell a round: one command each, within the limits.
-pub record SpellRound (lines : List (List ℕ)) (commands : List Task) : Type 0 where
-  pub each : SpellEach lines commands
-  pub count : length commands ≤ 4096
+-- Commands are a round: numbered from the first line on, at most 4,096, with 67,108,864 bytes together, and each of their tasks is one that is served.
+pub record IsRound (commands : List Command) : Type 0 where
+  pub order : AreInOrder 0 commands
+  pub count : length commands ≤ MOST_COMMANDS
+  pub payload : payload_of commands ≤ 67108864
+  pub served : All (λ command. IsServed command.task) commands
+
+-- Lines spell a round: one command each, numbered from the first line on, within the limits.
+pub record SpellRound (lines : List (List ℕ)) (commands : List Command) : Type 0 where
+  pub each : SpellEach 0 lines commands
+  pub count : length commands ≤ MOST_COMMANDS
   pub payload : payload_of commands ≤ 67108864
 
 -- The line with this number, counted from 1, is the first refused one: the lines before it spell a round, and with it they don't.
 pub record IsFirstRefused (lines : List (List ℕ)) (number : ℕ) : Type 0 where
   pub some : 0 < number
   pub within : number ≤ length lines
-  pub commands : List Task
+  pub commands : List Command
   pub before : SpellRound (take (number - 1) lines) commands
-  pub refused : (more : List Task) → SpellRound (take number lines) more → ⊥
+  pub refused : (more : List Command) → SpellRound (take number lines) more → ⊥
 
 -- A text was read: its lines that have ended spell a round of these commands, and these bytes of the next line are there.
-pub record HasRead (text : List ℕ) (commands : List Task) (line : List ℕ) : Type 0 where
+pub record HasRead (text : List ℕ) (commands : List Command) (line : List ℕ) : Type 0 where
   pub ended : List (List ℕ)
   pub split : (rest : List ℕ) → lines_of (text ++ rest) ≡ ended ++ line_before line (lines_of rest)
   pub round : SpellRound ended commands
@@ -43,7 +50,7 @@ pub record LeftBehind (text whole : List ℕ) (now : Option (List ℕ)) : Type 0
 pub record IsReadInFront (whole : List ℕ) (now : Option (List ℕ)) : Type 0 where
   pub text : List ℕ
   pub behind : LeftBehind text whole now
-  pub commands : List Task
+  pub commands : List Command
   pub line : List ℕ
   pub read : HasRead text commands line
 

@@ -5,9 +5,8 @@ mod laws;
 mod line;
 mod lines;
 mod round;
-mod task;
 
+pub use era_model::{Command, Request, Task};
 pub use laws::{accepted_is_not_refused, command_of_line_is_unique, round_of_lines_is_unique};
 pub use lines::read_round;
 pub use round::{CommandList, LineError, LineKind, PlanError, Round};
-pub use task::{Request, Task, Write};

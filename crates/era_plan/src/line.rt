@@ -2,17 +2,16 @@
 
 ghost use Rattle.std.specs.Prelude.{◌≡◌, ◌≢◌, ◌↔◌, ℕ, ◌<◌, ◌^◌, List, ◌∷◌, ◌++◌, length, decimal, Ok, IsTrue, IfSome, IfNone, IfOk};
 ghost use Rattle.hex.specs.Hex.{decode_of};
-ghost use Rattle.era_plan.specs.Grammar.{IsPayload, HasNoSpace, Spells, SpellsRequest, SpellsWrite};
-ghost use Rattle.era_plan.specs.declared.task.Request.{Request as request_of_line};
-ghost use Rattle.era_plan.specs.declared.task.Task.{Task as task_of_line};
-ghost use Rattle.era_plan.specs.declared.task.Write.{Write as write_of_line};
+ghost use Rattle.era_line.specs.TableLine.{HasNoSpace};
+ghost use Rattle.era_model.specs.declared.command.Request.{Request as request_of_line};
+ghost use Rattle.era_model.specs.declared.command.Task.{Task as task_of_line};
+ghost use Rattle.era_plan.specs.Grammar.{IsPayload, Spells, SpellsRequest, SpellsWrite};
 
-use crate::task::{Request, Task, Write};
 use era_base::{Bytes, Memory};
+use era_line::read_decimal;
+use era_model::{Request, Task};
 use hex::FromHexError;
-use itoa::Buffer;
 use std::alloc::Global;
-use std::str;
 
 /// The task that a line spells, or none where it spells none.
 pub fn read_task(alloc: Global, line: &[u8]) -> Result<Option<Task>, Memory>
@@ -23,10 +22,10 @@ pub fn read_task(alloc: Global, line: &[u8]) -> Result<Option<Task>, Memory>
     if let Some(request) = read_request(line) {
         return Ok(Some(Task::Ask(request)));
     }
-    let Some(write) = read_write(alloc, line)? else {
+    let Some((sector, bytes)) = read_write(alloc, line)? else {
         return Ok(None);
     };
-    Ok(Some(Task::Write(write)))
+    Ok(Some(Task::Write { sector, bytes }))
 }
 
 // The request that a line spells.
@@ -40,14 +39,15 @@ fn read_request(line: &[u8]) -> Option<Request>
     }
     let word = line.strip_prefix(b"0 list ")?;
     let since = read_era(word)?;
-    Some(Request::ListSince(since))
+    Some(Request::List { since, snap: false })
 }
 
-// The write that a line spells.
-fn read_write(alloc: Global, line: &[u8]) -> Result<Option<Write>, Memory>
-    ensures some { IfOk result (λ read. IfSome read (SpellsWrite line.now)) }
-    ensures none { IfOk result (λ read.
-        IfNone read ((write : write_of_line) → SpellsWrite line.now write → ⊥)) }
+// The sector and the bytes of the write that a line spells.
+fn read_write(alloc: Global, line: &[u8]) -> Result<Option<(u64, Bytes)>, Memory>
+    ensures some { IfOk result (λ read.
+        IfSome read (λ write. SpellsWrite line.now write.0 write.1)) }
+    ensures none { IfOk result (λ read. IfNone read
+        ((sector : ℕ) (bytes : List ℕ) → SpellsWrite line.now sector bytes → ⊥)) }
 {
     let Some(words) = line.strip_prefix(b"0 write ") else {
         return Ok(None);
@@ -61,7 +61,7 @@ fn read_write(alloc: Global, line: &[u8]) -> Result<Option<Write>, Memory>
     let Some(bytes) = read_payload(alloc, digits)? else {
         return Ok(None);
     };
-    Ok(Some(Write { sector, bytes }))
+    Ok(Some((sector, bytes)))
 }
 
 // What stands before the first space of a text, and what stands behind it.
@@ -83,30 +83,13 @@ fn read_era(text: &[u8]) -> Option<u32>
     u32::try_from(read_decimal(text)?).ok()
 }
 
-// The number below 2^64 of which this is the decimal without leading zeros.
-fn read_decimal(text: &[u8]) -> Option<u64>
-    ensures some { IfSome result (λ number. text.now ≡ decimal number) }
-    ensures none { IfNone result ((number : ℕ) → number < 2 ^ 64 → text.now ≢ decimal number) }
-{
-    let Ok(text) = str::from_utf8(text) else {
-        return None;
-    };
-    let Ok(number) = text.parse::<u64>() else {
-        return None;
-    };
-    if Buffer::new().format(number) == text {
-        Some(number)
-    } else {
-        None
-    }
-}
-
 // The bytes that hexadecimal digits of either case spell, where they are 1 to 128 whole sectors.
 fn read_payload(alloc: Global, digits: &[u8]) -> Result<Option<Bytes>, Memory>
     ensures some { IfOk result (λ read.
         IfSome read (λ bytes. (decode_of digits.now ≡ Ok bytes) × IsPayload (length bytes))) }
     ensures none { IfOk result (λ read.
-        IfNone read ((bytes : List ℕ) → decode_of digits.now ≡ Ok bytes → IsPayload (length bytes) → ⊥)) }
+        IfNone read ((bytes : List ℕ) → decode_of digits.now ≡ Ok bytes → IsPayload (length bytes)
+        → ⊥)) }
 {
     match hex::decode(alloc, digits) {
         Ok(bytes) => {

@@ -1,18 +1,16 @@
 //! The reader: it takes a source's bytes up to the end or the first refused line.
 
 ghost use Rattle.std.specs.Prelude.{◌≡◌, ℕ, ◌+◌, ◌<◌, ◌≤◌, List, [], ◌∷◌, ◌++◌, length, vec_len, Some, IfOk, OnOk, IfErr};
-ghost use Rattle.era_plan.specs.Grammar.{lines_of, payload_of, payload_of_task};
-ghost use Rattle.era_plan.specs.Rounds.{SpellRound, IsWithinLimits, HasRead, Refuses, FailsBehind, HasPlanCause};
+ghost use Rattle.era_base.specs.declared.limits.TheConstants.{MOST_COMMANDS};
+ghost use Rattle.era_plan.specs.Grammar.{command_of, lines_of, payload_of, payload_of_task};
+ghost use Rattle.era_plan.specs.Rounds.{SpellRound, IsRound, HasRead, Refuses, FailsBehind, HasPlanCause};
 ghost use Rattle.era_plan.specs.Inside.{EndsLine, RefusesAt, IsOwn, RefusesLine, left_to_read};
 
 use crate::line::read_task;
 use crate::round::{CommandList, LineError, LineKind, PlanError, Round};
-use crate::task::Task;
-use era_base::{Memory, Source};
+use era_base::{CmdId, MOST_COMMANDS, Memory, Source};
+use era_model::{Command, Task};
 use std::alloc::Global;
-
-/// The greatest number of commands of a round.
-const MOST_COMMANDS: usize = 4_096;
 
 /// The greatest number of bytes that the writes of a round have together.
 const MOST_PAYLOAD: usize = 67_108_864;
@@ -30,7 +28,7 @@ pub fn read_round<S: Source>(alloc: Global, source: &mut S) -> Result<Round, Pla
         → IfErr result (Refuses text) }
     ensures front { (text : List ℕ) → S.left source.old ≡ Some text
         → IfErr result (FailsBehind text (S.left source.new)) }
-    ensures limits { IfOk result (λ round. IsWithinLimits round.commands) }
+    ensures round { IfOk result (λ round. IsRound round.commands) }
     ensures cause { HasPlanCause (S.faults source.old) (S.faults source.new) result }
 {
     let mut reader = Reader::new(alloc);
@@ -54,7 +52,7 @@ struct Reader {
     line: Vec<u8>,
     ghost counted: { payload ≡ payload_of commands },
     ghost most: { payload ≤ 67108864 },
-    ghost count: { length commands ≤ 4096 },
+    ghost count: { length commands ≤ MOST_COMMANDS },
     ghost short: { vec_len line ≤ 131200 },
 }
 
@@ -78,7 +76,8 @@ impl Reader {
         ensures refused { (text rest : List ℕ) → HasRead text self.old.commands self.old.line.items
             → IfErr result (Refuses (text ++ bytes.now ++ rest)) }
         ensures own { IfErr result IsOwn }
-        ensures less { OnOk result (left_to_read self.new.commands self.new.line.items + length bytes.now
+        ensures less { OnOk result (left_to_read self.new.commands self.new.line.items + length
+            bytes.now
             ≤ left_to_read self.old.commands self.old.line.items) }
     {
         for byte in bytes {
@@ -119,21 +118,38 @@ impl Reader {
 
     // Ends the line, which is refused where it spells no command or there would be too much.
     fn end_line(&mut self, alloc: Global) -> Result<(), PlanError>
-        ensures ok { OnOk result (EndsLine self.old.commands self.old.line.items self.new.commands) }
+        ensures ok { OnOk result (EndsLine self.old.commands self.old.line.items
+            self.new.commands) }
         ensures line { OnOk result (self.new.line.items ≡ []) }
         ensures refused { IfErr result (RefusesLine self.old.commands self.old.line.items) }
     {
-        let Some(command) = read_task(alloc, self.line.as_slice())? else {
+        let Some(task) = read_task(alloc, self.line.as_slice())? else {
             return Err(self.refusal());
         };
-        let payload = self.payload + payload_of_command(&command);
-        if self.commands.len() >= MOST_COMMANDS || payload > MOST_PAYLOAD {
+        let payload = self.payload + count_payload(&task);
+        if self.commands.len() >= MOST_COMMANDS as usize || payload > MOST_PAYLOAD {
             return Err(self.refusal());
         }
+        let command = self.command(task);
         self.commands.push(command)?;
         self.payload = payload;
         self.line.clear();
         Ok(())
+    }
+
+    // The command of the line, which does this.
+    fn command(&self, task: Task) -> Command
+        ensures { result ≡ command_of (length self.now.commands) task }
+    {
+        let index = self.commands.len() as u32;
+        Command {
+            line: index + 1,
+            id: CmdId {
+                lane: 0,
+                number: index,
+            },
+            task,
+        }
     }
 
     // The round, where the input has ended. What is left of a line without an LF is a line.
@@ -163,12 +179,13 @@ impl Reader {
     }
 }
 
-// How many bytes a command writes.
-fn payload_of_command(command: &Task) -> usize
-    ensures { result ≡ payload_of_task command.now }
+// How many bytes a task writes, or asks for by a read.
+fn count_payload(task: &Task) -> usize
+    ensures { result ≡ payload_of_task task.now }
 {
-    match command {
-        Task::Write(write) => write.bytes.len(),
+    match task {
+        Task::Write { bytes, .. } => bytes.len(),
+        Task::Read { count, .. } => *count as usize * 512,
         Task::Ask(_) => 0,
     }
 }

@@ -1,68 +1,13 @@
 //! A round of commands, and why a stream gives none.
 
-ghost use Rattle.std.specs.Prelude.{◌≡◌, ◌==◌, ℕ, List, [], ◌∷◌, ◌++◌, length, OnOk, OnErr};
+ghost use Rattle.std.specs.Prelude.{◌≡◌};
 
-use crate::task::Task;
-use era_base::Memory;
-use std::alloc::{AllocError, AllocFailed, Global};
-use std::marker::Model;
+use era_base::{Items, Memory};
+use era_model::Command;
 use thiserror::Error;
 
 /// Commands in the order of the input.
-#[derive(Debug, Drop)]
-pub struct CommandList {
-    items: Vec<Task>,
-}
-
-impl Model for CommandList {
-    ghost use Rattle.era_plan.specs.declared.task.Task.{Task};
-    ghost use Rattle.std.specs.Prelude.{List};
-
-    ghost Value = { List Task };
-
-    ghost view = { λ c. c.items.items };
-}
-
-impl CommandList {
-    /// No commands. It takes no memory.
-    pub fn new(alloc: Global) -> CommandList
-        ensures { result ≡ [] }
-    {
-        CommandList {
-            items: Vec::new(alloc),
-        }
-    }
-
-    /// Adds a command behind the others.
-    pub fn push(&mut self, command: Task) -> Result<(), Memory>
-        ensures ok { OnOk result (self.new ≡ self.old ++ command ∷ []) }
-        ensures err { OnErr result (self.new ≡ self.old) }
-    {
-        self.items.push(command)?;
-        Ok(())
-    }
-
-    /// The number of commands.
-    pub fn len(&self) -> usize
-        ensures { result ≡ length self.now }
-    {
-        self.items.len()
-    }
-
-    /// Whether there are no commands.
-    pub fn is_empty(&self) -> bool
-        ensures { result ≡ (length self.now == 0) }
-    {
-        self.items.is_empty()
-    }
-
-    /// The commands as a slice.
-    pub fn as_slice(&self) -> &[Task]
-        ensures { result.now ≡ self.now }
-    {
-        self.items.as_slice()
-    }
-}
+pub type CommandList = Items<Command>;
 
 /// The commands that are run before the next round is read.
 #[derive(Debug, Drop)]

@@ -1,6 +1,6 @@
 use Rattle.std.proofs.Common.{◌≡◌, ℕ, ◌<◌, vec_len}
+use Rattle.era_base.specs.Flags.{has}
 use Rattle.era_model.specs.Journal.{history_at}
-use Rattle.era_model.specs.Marks.{has}
 use Rattle.era_model.specs.Marking.{asked_since}
 use Rattle.era_model.proofs.plain_calls.asked_since.Given as goal
 

@@ -1,9 +1,9 @@
 use Rattle.std.proofs.Common.{ℕ, List, drop, subst, rules, arith}
 use Rattle.std.proofs.lemmas.Result.{err_from_is_err_and, IfOk-weaker}
 use Rattle.era_plan.specs.Grammar.{lines_of}
-use Rattle.era_plan.specs.Rounds.{SpellRound, IsWithinLimits, Refuses}
+use Rattle.era_plan.specs.Rounds.{SpellRound, IsRound, Refuses}
 use Rattle.era_plan.specs.declared.round.Round.{Round}
-use Rattle.era_plan.proofs.RoundSteps.{IsWithinLimits-round}
+use Rattle.era_plan.proofs.RoundSteps.{IsRound-spelled}
 use Rattle.era_plan.proofs.SourceSteps.{HasTaken-more, HasTaken-end, taken_join, always_on_ok}
 use Rattle.era_plan.proofs.lines.read_round.Goals as goal
 
@@ -22,11 +22,11 @@ returns-then-count-eq0-clause-refused g c = λ text told.
     let end = HasTaken-end _ _ _ _ _ _ _ c.loop-count.invariant.taken c.in-Ok.ensures.taken c.if-count-eq0.true (omega arith) text told in
     c.finish.ensures.refused text end.read
 
-pub returns-then-count-eq0-clause-limits : goal.returns-then-count-eq0-clause-limits
-returns-then-count-eq0-clause-limits g c =
+pub returns-then-count-eq0-clause-round : goal.returns-then-count-eq0-clause-round
+returns-then-count-eq0-clause-round g c =
     let taken = c.loop-count.invariant.taken in
-    IfOk-weaker c.finish.result (λ (round : Round). SpellRound (lines_of taken.text) round.commands) (λ (round : Round). IsWithinLimits round.commands)
-    (λ round spelled. IsWithinLimits-round (lines_of taken.text) round.commands spelled) (c.finish.ensures.ok taken.text taken.read)
+    IfOk-weaker c.finish.result (λ (round : Round). SpellRound (lines_of taken.text) round.commands) (λ (round : Round). IsRound round.commands)
+    (λ round spelled. IsRound-spelled (lines_of taken.text) round.commands spelled) (c.finish.ensures.ok taken.text taken.read)
 
 pub loop-count-preserved : goal.loop-count-preserved
 loop-count-preserved g c = record {

@@ -1,4 +1,4 @@
-use Rattle.std.proofs.Common.{◌≡◌, ℕ, All, false, length, replicate, vec_len, sym, ◌∙◌, ap, subst, arith}
+use Rattle.std.proofs.Common.{◌≡◌, All, false, length, replicate, vec_len, ◌∙◌, ap, subst, arith}
 use Rattle.era_base.specs.Geometry.{blocks_of}
 use Rattle.era_model.specs.Marks.{rolled}
 use Rattle.era_marks.proofs.SetLists.{switched-parts, switched-rolled}
