@@ -1,2 +1,3 @@
 pub mod TableLine
+pub mod TextBuffer
 pub mod Inside

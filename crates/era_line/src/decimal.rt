@@ -3,17 +3,21 @@
 ghost use Rattle.std.specs.Prelude.{◌≡◌, ◌≢◌, ℕ, ◌<◌, ◌^◌, decimal, IfSome, IfNone};
 
 use itoa::Buffer;
+use std::str;
 
 /// The number below 2^64 of which a text is the decimal: digits alone, without leading zeros.
-pub fn read_decimal(text: &str) -> Option<u64>
+pub fn read_decimal(text: &[u8]) -> Option<u64>
     ensures some { IfSome result (λ value. text.now ≡ decimal value) }
     ensures none { IfNone result ((value : ℕ) → value < 2 ^ 64 → text.now ≢ decimal value) }
 {
-    let Ok(value) = text.parse::<u64>() else {
+    let Ok(text) = str::from_utf8(text) else {
         return None;
     };
-    if Buffer::new().format(value) == text {
-        Some(value)
+    let Ok(number) = text.parse::<u64>() else {
+        return None;
+    };
+    if Buffer::new().format(number) == text {
+        Some(number)
     } else {
         None
     }

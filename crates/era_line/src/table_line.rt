@@ -69,7 +69,7 @@ fn parts_of(text: &str) -> Option<Parts<'_>>
     let rest = rest.strip_prefix("era ")?;
     let (meta, rest) = next_name(rest)?;
     let (origin, rest) = next_name(rest)?;
-    let block_sectors = read_decimal(rest)?;
+    let block_sectors = read_decimal(rest.as_bytes())?;
     Some(Parts {
         length,
         meta,
@@ -85,7 +85,7 @@ fn next_number(text: &str) -> Option<(u64, &str)>
     ensures none { IfNone result (BeginsWithNoNumber text.now) }
 {
     let (first, rest) = next_part(text)?;
-    Some((read_decimal(first)?, rest))
+    Some((read_decimal(first.as_bytes())?, rest))
 }
 
 // The name that stands before the first space, and what stands behind that space.

@@ -1,3 +1,4 @@
+use Rattle.std.proofs.Common.{◌∙◌}
 use Rattle.std.specs.Prelude.{codes, decimal}
 use Rattle.era_line.specs.TableLine.{IsNoTableLine}
 use Rattle.era_line.proofs.Spelling.{if_none, cut_same, stripped, behind_length, behind_word, from_meta, from_origin}
@@ -49,4 +50,4 @@ returns-in_err-block_sectors-clause-none c = if_none {P = IsNoTableLine c.args.t
     let other = c.in_ok-origin.ensures.some in
     let third = cut_same c.in_ok-meta.rest.now c.in_ok-origin.origin.now origin c.in_ok-origin.rest.now (decimal size)
     other.1.no_space t.origin_name.no_space other.0 second.1 in
-    c.in_err-block_sectors.ensures.none size t.block_fits third.1)
+    c.in_err-block_sectors.ensures.none size t.block_fits (c.as_bytes.ensures.value ∙ third.1))
