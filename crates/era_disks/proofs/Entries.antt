@@ -9,7 +9,7 @@ use Rattle.std.specs.declared.snapshot.Snapshot.{Snapshot}
 use Rattle.era_base.specs.Disk.{Place}
 use Rattle.era_base.specs.Bay.{Loan, ended_loan, IsOut, EndsLoan, Overlap, IsFree}
 use Rattle.era_disks.specs.declared.loan_entry.LoanEntry.{LoanEntry}
-use Rattle.era_disks.specs.Loans.{shown, loan_of, loans_of, IsPlaced, IsOutAt, IsLastOut, Blocks}
+use Rattle.era_disks.specs.Loans.{shown, loan_of, loans_of, IsEntryPlaced, IsOutAt, IsLastOut, Blocks}
 
 -- what holds of each element
 abbrev pub AllAt : {A : Type 0} → (A → Type 0) → List A → Type 0
@@ -56,7 +56,7 @@ place-same place device first d f =
 
 -- no entry blocks the range: the range is free
 pub free-none : {D : Type 0} (place_of : D → Place) (sectors_of : D → ℕ) (entries : List (LoanEntry D)) (device : List ℕ) (first count : ℕ)
-    → AllAt (IsPlaced place_of sectors_of) entries
+    → AllAt (IsEntryPlaced place_of sectors_of) entries
     → ((index : ℕ) (entry : LoanEntry D) → slice_get entries index ≡ Some entry → Blocks device first count entry → ⊥)
     → IsFree place_of sectors_of (loans_of entries) device first count
 free-none {D} place_of sectors_of entries device first count placed none index loan found =
@@ -73,7 +73,7 @@ free-none {D} place_of sectors_of entries device first count placed none index l
 
 -- an entry blocks the range: the range isn't free
 pub free-some : {D : Type 0} (place_of : D → Place) (sectors_of : D → ℕ) (entries : List (LoanEntry D)) (device : List ℕ) (first count index : ℕ)
-    → (entry : LoanEntry D) → AllAt (IsPlaced place_of sectors_of) entries
+    → (entry : LoanEntry D) → AllAt (IsEntryPlaced place_of sectors_of) entries
     → slice_get entries index ≡ Some entry → Blocks device first count entry
     → IsFree place_of sectors_of (loans_of entries) device first count → ⊥
 free-some place_of sectors_of entries device first count index entry placed at blocks free =
@@ -83,7 +83,7 @@ free-some place_of sectors_of entries device first count index entry placed at b
 
 -- a loan that is out has its entry
 pub out-entry : {D : Type 0} (place_of : D → Place) (sectors_of : D → ℕ) (entries : List (LoanEntry D)) (place : Place) (sectors index : ℕ)
-    → AllAt (IsPlaced place_of sectors_of) entries
+    → AllAt (IsEntryPlaced place_of sectors_of) entries
     → IsOut place_of sectors_of (loans_of entries) place sectors index
     → ((entry : LoanEntry D) → slice_get entries index ≡ Some entry → IsOutAt place.device place.first sectors entry → ⊥) → ⊥
 out-entry {D} place_of sectors_of entries place sectors index placed is none =
@@ -102,7 +102,7 @@ out-entry {D} place_of sectors_of entries place sectors index placed is none =
 
 -- the last entry that is out at the disk's place, ended by the disk, ends its loan
 pub ends-last : {D : Type 0} (place_of : D → Place) (sectors_of : D → ℕ) (entries : List (LoanEntry D)) (disk : D) (index : ℕ)
-    → AllAt (IsPlaced place_of sectors_of) entries
+    → AllAt (IsEntryPlaced place_of sectors_of) entries
     → (last : IsLastOut entries (place_of disk).device (place_of disk).first (sectors_of disk) index)
     → (now : LoanEntry D) → loan_of now ≡ ended_loan (loan_of last.entry) disk
     → EndsLoan place_of sectors_of disk (loans_of entries) (loans_of (slice_set entries index now))

@@ -8,3 +8,4 @@ pub mod TornRows
 pub mod States
 pub mod Replay
 mod ImageSizes
+pub mod TextEnds

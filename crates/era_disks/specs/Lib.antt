@@ -7,6 +7,7 @@ pub mod Devices
 pub mod Loans
 pub mod MemBay
 pub mod MemDisk
+pub mod MemParts
 pub mod Crashed
 pub mod Rows
 pub mod Tears
@@ -15,5 +16,7 @@ pub mod PlainDisk
 pub mod PlainDevices
 pub mod PlainBay
 pub mod Streams
+pub mod LastLines
 pub mod ImageFiles
+pub mod SyncFlags
 pub mod FileDisk

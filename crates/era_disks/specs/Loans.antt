@@ -19,7 +19,7 @@ abbrev pub loans_of : {D : Type 0} → List (LoanEntry D) → List (Loan D)
 loans_of entries = map loan_of entries
 
 -- An entry has the place and the size of its disk as it was lent.
-pub record IsPlaced {D : Type 0} (place_of : D → Place) (sectors_of : D → ℕ) (entry : LoanEntry D) : Type 0 where
+pub record IsEntryPlaced {D : Type 0} (place_of : D → Place) (sectors_of : D → ℕ) (entry : LoanEntry D) : Type 0 where
   pub same_device : (place_of entry.lent.value).device ≡ entry.device
   pub same_first : (place_of entry.lent.value).first ≡ entry.first
   pub same_size : sectors_of entry.lent.value ≡ entry.sectors

@@ -42,7 +42,7 @@ abbrev pub IsFreeIn : PlainBay → List ℕ → ℕ → ℕ → Type 0
 IsFreeIn bay name first sectors = IsFree plain_place plain_sectors (plain_loans bay) name first sectors
 
 -- A plain disk without a past lies at the range of the device, and reads as the bay does there.
-pub record IsLent (bay : PlainBay) (name : List ℕ) (first sectors : ℕ) (disk : PlainDisk) : Type 0 where
+pub record IsPlainPart (bay : PlainBay) (name : List ℕ) (first sectors : ℕ) (disk : PlainDisk) : Type 0 where
   pub place : plain_place disk ≡ record { device = name; first = first }
   pub size : plain_sectors disk ≡ sectors
   pub unused : IsUnused disk

@@ -25,7 +25,8 @@ impl MemBay {
     pub fn add(&mut self, name: &str, sectors: u64) -> Result<(), Memory>
         requires { sizes_of self.old name.now ≡ None }
         ensures size { OnOk result (sizes_of self.new name.now ≡ Some sectors) }
-        ensures zeros { OnOk result (HasContent (reads_of self.new) name.now sectors (replicate (sectors * 512) 0)) }
+        ensures zeros { OnOk result
+            (HasContent (reads_of self.new) name.now sectors (replicate (sectors * 512) 0)) }
         ensures calls { OnOk result (calls_of self.new name.now ≡ Some no_disk_calls) }
         ensures others { (other : List ℕ) → (other ≡ name.now → ⊥)
             → (sizes_of self.new other ≡ sizes_of self.old other)
@@ -45,11 +46,11 @@ impl MemBay {
         Ok(())
     }
 
-    /// The bytes of a device that the bay holds.
+    /// The bytes of a device that the bay holds, and `None` for any other name.
     pub fn content(&self, alloc: Global, name: &str) -> Result<Option<Bytes>, Memory>
-        ensures held { IfOk result (λ held. IfSome held (λ bytes. (sectors : ℕ)
-            → sizes_of self.now name.now ≡ Some sectors
-            → HasContent (reads_of self.now) name.now sectors bytes)) }
+        ensures held { IfOk result (λ held. IfSome held (λ bytes.
+            (sectors : ℕ) × (sizes_of self.now name.now ≡ Some sectors)
+            × HasContent (reads_of self.now) name.now sectors bytes)) }
         ensures none { IfOk result (λ held. IfNone held (sizes_of self.now name.now ≡ None)) }
     {
         match find_device(self.devices.as_slice(), name) {

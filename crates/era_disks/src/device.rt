@@ -4,9 +4,9 @@ ghost use Rattle.std.specs.Prelude.{◌≡◌, ◌≢◌, [], ◌∷◌, ◌++�
 ghost use Rattle.era_disks.specs.Devices.{IsFoundAt, device_of, has_name};
 ghost use Rattle.era_disks.specs.DiskCalls.{no_disk_calls, also_failing_call, restarted_calls};
 ghost use Rattle.era_disks.specs.MemDisk.{place_of, sectors_of, faults_of, starved_of, HasNewRecord};
+ghost use Rattle.era_disks.specs.MemParts.{IsPartOf, TakesPart};
 ghost use Rattle.era_disks.specs.Crashed.{Crashes};
 ghost use Rattle.era_disks.specs.Rows.{bytes_of};
-ghost use borrow.Rule.Slice.PartMut.{put_mid};
 
 use crate::disk_calls::{DiskCall, DiskCalls};
 use crate::fuse::FuseEnd;
@@ -37,8 +37,7 @@ impl Device {
         requires { first + sectors ≤ length self.now.state.rows.items }
         ensures place { IfOk result (λ disk. place_of disk
             ≡ record { device = self.now.name; first = first }) }
-        ensures rows { IfOk result (λ disk. disk.state.rows.items
-            ≡ take sectors (drop first self.now.state.rows.items)) }
+        ensures part { IfOk result (λ disk. IsPartOf first sectors self.now.state disk.state) }
         ensures size { IfOk result (λ disk. sectors_of disk ≡ sectors) }
         ensures calls { IfOk result (λ disk. disk.calls ≡ restarted_calls self.now.calls) }
         ensures fresh { IfOk result (λ disk. (faults_of disk ≡ 0) × (starved_of disk ≡ 0)
@@ -103,8 +102,7 @@ impl Device {
         requires { first + length state.rows.items ≤ length self.old.state.rows.items }
         ensures name { self.new.name ≡ self.old.name }
         ensures calls { self.new.calls ≡ no_disk_calls }
-        ensures rows { self.new.state.rows.items
-            ≡ put_mid first (length state.rows.items) self.old.state.rows.items state.rows.items }
+        ensures part { TakesPart first state self.old.state self.new.state }
     {
         let sectors = state.rows.len();
         self.state.rows[first..first + sectors].swap_with_slice(state.rows.as_mut_slice());

@@ -38,7 +38,10 @@ impl FailureCounts {
     pub fn starve(&mut self) -> Failed
         ensures later { self.old.faults ≤ self.new.faults }
         ensures rose { Rose self.old.faults self.new.faults }
-        ensures counted { self.new ≡ record { faults = one_more self.old.faults; starved = one_more self.old.starved } }
+        ensures counted { self.new ≡ record {
+          faults = one_more self.old.faults;
+          starved = one_more self.old.starved;
+        } }
     {
         self.starved = self.starved.saturating_add(1);
         self.fail()

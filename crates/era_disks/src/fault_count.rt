@@ -31,9 +31,18 @@ impl FaultCount {
         ensures first { self.old.first ≡ None → self.new.first ≡ Some reason }
         ensures kept { OnSome self.old.first (self.new.first ≡ self.old.first) }
     {
-        self.count = self.count.saturating_add(1);
+        self.rise_again();
         if self.first.is_none() {
             self.first = Some(reason);
         }
+    }
+
+    /// One more failure, whose reason was told elsewhere.
+    pub fn rise_again(&mut self)
+        ensures later { self.old.count ≤ self.new.count }
+        ensures rose { Rose self.old.count self.new.count }
+        ensures first { self.new.first ≡ self.old.first }
+    {
+        self.count = self.count.saturating_add(1);
     }
 }

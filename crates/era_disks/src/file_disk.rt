@@ -1,41 +1,57 @@
-//! A part of an open file, as a disk. Once a sync has failed, nothing of it is trusted any more.
+//! A part of an open file, as a disk. Once a sync of its device has failed, nothing of it is trusted any more.
 
-ghost use Rattle.std.specs.Prelude.{◌≡◌, ◌+◌, ◌*◌, ◌<◌, ◌^◌, [], false, length, IsErr, IsTrue, OnErr, option_map};
+ghost use Rattle.std.specs.Prelude.{◌≡◌, ◌+◌, ◌*◌, ◌<◌, ◌≤◌, ◌^◌, [], false, length, IsErr, IsTrue, OnErr, option_map};
 ghost use Rattle.era_base.specs.CrashModel.{LiesOn};
-ghost use Rattle.era_base.specs.Faults.{HasCause};
+ghost use Rattle.era_base.specs.Faults.{HasCause, Rose};
 
 use crate::fault_count::FaultCount;
+use crate::sync_flag::SyncFlag;
 use era_base::{Disk, Failed, Name};
 use std::fs::File;
 use std::io;
 use std::os::unix::fs::FileExt;
 
-/// Sectors of an open file. After a failed sync every call fails: the system may have dropped what was pending.
+/// Sectors of an open file. After a failed sync every call of each disk of the device fails: the system may have dropped
+/// what was pending, and it tells this once.
 #[derive(Drop)]
 pub struct FileDisk {
     device: Name,
     first: u64,
     sectors: u64,
     file: File,
-    stopped: bool,
+    writable: bool,
+    syncs: SyncFlag,
     faults: FaultCount,
     ghost limited: { (first + sectors) * 512 < 2 ^ 64 },
 }
 
 impl FileDisk {
-    /// So many sectors of an open file, from sector `first` on.
-    pub fn new(device: Name, file: File, first: u64, sectors: u64) -> FileDisk
+    ghost use Rattle.era_disks.specs.FileDisk.{place_of, sectors_of, is_stopped};
+    ghost use Rattle.era_disks.specs.SyncFlags.{has_failed};
+
+    /// So many sectors of an open file, from sector `first` on, with the flag of its device. Where the file isn't open for
+    /// writing, each write is a fault.
+    pub fn new(
+        device: Name,
+        first: u64,
+        sectors: u64,
+        file: File,
+        writable: bool,
+        syncs: SyncFlag,
+    ) -> FileDisk
         requires { (first + sectors) * 512 < 2 ^ 64 }
-        ensures place { (result.device ≡ device) × (result.first ≡ first)
-            × (result.sectors ≡ sectors) }
-        ensures sound { (result.stopped ≡ false) × (result.faults.count ≡ 0) }
+        ensures place { place_of result ≡ record { device = device; first = first } }
+        ensures size { sectors_of result ≡ sectors }
+        ensures flag { is_stopped result ≡ has_failed syncs }
+        ensures faults { result.faults.count ≡ 0 }
     {
         FileDisk {
             device,
             first,
             sectors,
             file,
-            stopped: false,
+            writable,
+            syncs,
             faults: FaultCount::new(),
         }
     }
@@ -54,7 +70,34 @@ impl FileDisk {
         self.first
     }
 
-    /// The device, and the system's reason of the first failure.
+    /// What is known of the syncs of the device.
+    pub fn syncs(&self) -> &SyncFlag
+        ensures { has_failed result.now ≡ is_stopped self.now }
+    {
+        &self.syncs
+    }
+
+    /// One more failure.
+    fn fail(&mut self, reason: io::Error) -> Failed
+        ensures later { self.old.faults.count ≤ self.new.faults.count }
+        ensures rose { Rose self.old.faults.count self.new.faults.count }
+        ensures same { self.new ≡ record self.old { faults = self.new.faults } }
+    {
+        self.faults.rise(reason);
+        Failed
+    }
+
+    /// One more failure after a failed sync of the device, whose reason the disk tells that made it.
+    fn stop(&mut self) -> Failed
+        ensures later { self.old.faults.count ≤ self.new.faults.count }
+        ensures rose { Rose self.old.faults.count self.new.faults.count }
+        ensures same { self.new ≡ record self.old { faults = self.new.faults } }
+    {
+        self.faults.rise_again();
+        Failed
+    }
+
+    /// The device, and the system's reason of the first failure that was this disk's own.
     pub fn into_failure(self) -> Option<(Name, io::Error)>
         ensures { result ≡ option_map (λ reason. (self.device, reason)) self.faults.first }
     {
@@ -64,6 +107,8 @@ impl FileDisk {
 }
 
 impl Disk for FileDisk {
+    ghost use Rattle.era_disks.specs.FileDisk.{is_stopped};
+
     ghost tells = { false };
 
     ghost place = { λ d. record { device = d.device; first = d.first } };
@@ -85,18 +130,15 @@ impl Disk for FileDisk {
         ensures place { (self.new.device ≡ self.old.device) × (self.new.first ≡ self.old.first) }
         ensures size { self.new.sectors ≡ self.old.sectors }
         ensures cause { HasCause self.old.faults.count self.new.faults.count result }
-        ensures stopped { IsTrue self.old.stopped → IsErr result × IsTrue self.new.stopped }
+        ensures stopped { IsTrue (is_stopped self.old)
+            → IsErr result × IsTrue (is_stopped self.new) }
     {
-        if self.stopped {
-            self.faults.rise(io::ErrorKind::Other.into());
-            return Err(Failed);
+        if self.syncs.has_failed() {
+            return Err(self.stop());
         }
         match self.file.read_exact_at(into, (self.first + first) * 512) {
             Ok(()) => Ok(()),
-            Err(reason) => {
-                self.faults.rise(reason);
-                Err(Failed)
-            }
+            Err(reason) => Err(self.fail(reason)),
         }
     }
 
@@ -105,18 +147,19 @@ impl Disk for FileDisk {
         ensures place { (self.new.device ≡ self.old.device) × (self.new.first ≡ self.old.first) }
         ensures size { self.new.sectors ≡ self.old.sectors }
         ensures cause { HasCause self.old.faults.count self.new.faults.count result }
-        ensures stopped { IsTrue self.old.stopped → IsErr result × IsTrue self.new.stopped }
+        ensures stopped { IsTrue (is_stopped self.old)
+            → IsErr result × IsTrue (is_stopped self.new) }
+        ensures reading { self.old.writable ≡ false → IsErr result }
     {
-        if self.stopped {
-            self.faults.rise(io::ErrorKind::Other.into());
-            return Err(Failed);
+        if self.syncs.has_failed() {
+            return Err(self.stop());
+        }
+        if !self.writable {
+            return Err(self.fail(read_only()));
         }
         match self.file.write_all_at(bytes, (self.first + first) * 512) {
             Ok(()) => Ok(()),
-            Err(reason) => {
-                self.faults.rise(reason);
-                Err(Failed)
-            }
+            Err(reason) => Err(self.fail(reason)),
         }
     }
 
@@ -124,19 +167,17 @@ impl Disk for FileDisk {
         ensures place { (self.new.device ≡ self.old.device) × (self.new.first ≡ self.old.first) }
         ensures size { self.new.sectors ≡ self.old.sectors }
         ensures cause { HasCause self.old.faults.count self.new.faults.count result }
-        ensures stopped { IsTrue self.old.stopped → IsErr result }
-        ensures stops { OnErr result (IsTrue self.new.stopped) }
+        ensures stopped { IsTrue (is_stopped self.old) → IsErr result }
+        ensures stops { OnErr result (IsTrue (is_stopped self.new)) }
     {
-        if self.stopped {
-            self.faults.rise(io::ErrorKind::Other.into());
-            return Err(Failed);
+        if self.syncs.has_failed() {
+            return Err(self.stop());
         }
         match self.file.sync_data() {
             Ok(()) => Ok(()),
             Err(reason) => {
-                self.stopped = true;
-                self.faults.rise(reason);
-                Err(Failed)
+                self.syncs.fail();
+                Err(self.fail(reason))
             }
         }
     }
@@ -144,4 +185,12 @@ impl Disk for FileDisk {
     fn faults(&self) -> u64 {
         self.faults.count
     }
+}
+
+/// Why a write failed that wasn't tried.
+fn read_only() -> io::Error {
+    io::Error::new(
+        io::ErrorKind::PermissionDenied,
+        "it can be opened for reading alone",
+    )
 }

@@ -5,7 +5,7 @@ ghost use Rattle.std.specs.Bool.{OnTrue, OnFalse};
 ghost use Rattle.era_base.specs.Disk.{Place};
 ghost use Rattle.era_base.specs.Bay.{new_loan, IsOut, IsFree, EndsLoan};
 ghost use Rattle.era_disks.specs.declared.loan_entry.LoanEntry.{LoanEntry};
-ghost use Rattle.era_disks.specs.Loans.{loans_of, IsPlaced, IsOutAt, IsLastOut, Blocks};
+ghost use Rattle.era_disks.specs.Loans.{loans_of, IsEntryPlaced, IsOutAt, IsLastOut, Blocks};
 
 use crate::loan_entry::LoanEntry;
 use era_base::{Disk, Memory, Name};
@@ -17,7 +17,7 @@ use std::snapshot::Snapshot;
 pub struct Loans<D: Disk> {
     pub entries: Vec<LoanEntry<D>>,
     pub ghost placed: { (index : ℕ) (entry : LoanEntry D) → slice_get entries.items index ≡ Some entry
-        → IsPlaced D.place D.sectors entry },
+        → IsEntryPlaced D.place D.sectors entry },
 }
 
 impl<D: Disk> Loans<D> {
@@ -61,8 +61,10 @@ impl<D: Disk> Loans<D> {
 
     /// Whether no disk that is out has one of `count` sectors from `first` on of the device.
     pub fn is_free(&self, device: &str, first: u64, count: u64) -> bool
-        ensures free { OnTrue result (IsFree D.place D.sectors (loans_of self.now.entries.items) device.now first count) }
-        ensures lent { OnFalse result (IsFree D.place D.sectors (loans_of self.now.entries.items) device.now first count → ⊥) }
+        ensures free { OnTrue result
+            (IsFree D.place D.sectors (loans_of self.now.entries.items) device.now first count) }
+        ensures lent { OnFalse result (IsFree D.place D.sectors
+            (loans_of self.now.entries.items) device.now first count → ⊥) }
     {
         match first_blocking(self.entries.as_slice(), device, first, count) {
             Some(_) => false,
@@ -73,8 +75,10 @@ impl<D: Disk> Loans<D> {
     /// Ends the last loan that is out at the disk's place. It takes no memory.
     pub fn end(&mut self, device: &str, first: u64, disk: &D)
         requires place { D.place disk.now ≡ record { device = device.now; first = first } }
-        requires out { (index : ℕ) × IsOut D.place D.sectors (loans_of self.old.entries.items) (D.place disk.now) (D.sectors disk.now) index }
-        ensures { EndsLoan D.place D.sectors disk.now (loans_of self.old.entries.items) (loans_of self.new.entries.items) }
+        requires out { (index : ℕ) × IsOut D.place D.sectors (loans_of self.old.entries.items)
+            (D.place disk.now) (D.sectors disk.now) index }
+        ensures { EndsLoan D.place D.sectors disk.now
+            (loans_of self.old.entries.items) (loans_of self.new.entries.items) }
     {
         match last_out(self.entries.as_slice(), device, first, disk.sectors()) {
             Some(index) => {

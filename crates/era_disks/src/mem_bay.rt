@@ -34,7 +34,7 @@ impl MemBay {
     ghost use Rattle.era_disks.specs.BayCalls.{no_bay_calls, also_failing_at};
     ghost use Rattle.era_disks.specs.DiskCalls.{no_disk_calls, also_failing_call};
     ghost use Rattle.era_disks.specs.declared.disk_calls.DiskCalls.{DiskCalls};
-    ghost use Rattle.era_disks.specs.MemBay.{sizes_of, reads_of, bay_loans, bay_faults, calls_of, state_in, SameCalls, ForgetsCalls, IsIdle, IsFresh, IsRefusedAt, LiesAt};
+    ghost use Rattle.era_disks.specs.MemBay.{sizes_of, reads_of, bay_loans, bay_faults, calls_of, state_in, SameCalls, ForgetsCalls, IsIdle, IsLentAnew, IsRefusedAt, LiesAt, CountsFault, TakesDisk};
     ghost use Rattle.era_disks.specs.Crashed.{Crashes};
     ghost use Rattle.era_disks.specs.Fuses.{IsUnburnt, LearnsFuse};
     ghost use Rattle.era_disks.specs.declared.mem_state.MemState.{MemState};
@@ -89,10 +89,7 @@ impl MemBay {
         ensures place { IfOk result (λ disk. place_of disk
             ≡ record { device = name.now; first = first }) }
         ensures size { IfOk result (λ disk. sectors_of disk ≡ sectors) }
-        ensures rows { (found : IsFoundAt self.old.devices.items name.now index)
-            → IfOk result (λ disk.
-            disk.state.rows.items ≡ take sectors (drop first found.device.state.rows.items)) }
-        ensures fresh { IfOk result (λ disk. IsFresh self.old name.now disk) }
+        ensures anew { IfOk result (λ disk. IsLentAnew self.old name.now disk) }
         ensures loans { IfOk result (λ disk. bay_loans self.new ≡ bay_loans self.old
             ++ new_loan disk ∷ []) }
         ensures err { OnErr result (bay_loans self.new ≡ bay_loans self.old) }
@@ -119,18 +116,18 @@ impl MemBay {
         requires { LiesAt self.old name.now index first sectors }
         ensures place { IfOk result (λ disk. (place_of disk
             ≡ record { device = name.now; first = first })
-            × (sectors_of disk ≡ sectors) × IsFresh self.old name.now disk) }
-        ensures content { IfOk result (λ disk. ReadsAs (reads_of self.old) name.now first sectors (history_of disk).now) }
-        ensures free { OnOk result (IsFree place_of sectors_of (bay_loans self.old) name.now first sectors) }
+            × (sectors_of disk ≡ sectors) × IsLentAnew self.old name.now disk) }
+        ensures content { IfOk result (λ disk.
+            ReadsAs (reads_of self.old) name.now first sectors (history_of disk).now) }
+        ensures free { OnOk result
+            (IsFree place_of sectors_of (bay_loans self.old) name.now first sectors) }
         ensures loans { IfOk result (λ disk. bay_loans self.new ≡ bay_loans self.old
             ++ new_loan disk ∷ []) }
-        ensures refused { OnErr result (bay_loans self.new ≡ bay_loans self.old) }
+        ensures refused { OnErr result (bay_loans self.new ≡ bay_loans self.old)
+            × (IsErrOf result BayError.Failed ↔ IsRefusedAt self.old name.now first sectors) }
         ensures rest { (self.new.devices ≡ self.old.devices) × (self.new.calls ≡ self.old.calls)
             × (self.new.fuse ≡ self.old.fuse) }
-        ensures cause { HasBayCause (bay_faults self.old) (bay_faults self.new) result
-            × (IsErrOf result BayError.Failed
-            → bay_faults self.new ≡ one_more (bay_faults self.old)) }
-        ensures why { IsErrOf result BayError.Failed ↔ IsRefusedAt self.old name.now first sectors }
+        ensures cause { CountsFault self.old self.new result }
     {
         if self.loans.is_free(name, first, sectors) {
             match self.lend(index, name, first, sectors) {
@@ -144,8 +141,10 @@ impl MemBay {
 
     /// Ends the last loan that is out at the disk's place.
     fn end_loan(&mut self, disk: &MemDisk)
-        requires { (index : ℕ) × IsOut place_of sectors_of (bay_loans self.old) (place_of disk.now) (sectors_of disk.now) index }
-        ensures loans { EndsLoan place_of sectors_of disk.now (bay_loans self.old) (bay_loans self.new) }
+        requires { (index : ℕ) × IsOut place_of sectors_of (bay_loans self.old)
+            (place_of disk.now) (sectors_of disk.now) index }
+        ensures loans { EndsLoan place_of sectors_of disk.now
+            (bay_loans self.old) (bay_loans self.new) }
         ensures rest { (self.new.devices ≡ self.old.devices)
             × (bay_faults self.new ≡ bay_faults self.old)
             × (self.new.calls ≡ self.old.calls) × (self.new.fuse ≡ self.old.fuse) }
@@ -155,9 +154,13 @@ impl MemBay {
 
     /// Moves the sectors of a disk into its device, and learns what it knows of the fuse.
     fn take_in(&mut self, disk: MemDisk)
-        requires { disk.first + sectors_of disk ≤ device_length (device_of self.old.devices.items disk.device) }
-        ensures content { NowReadsAs (reads_of self.new) disk.device disk.first (sectors_of disk) (history_of disk).now }
-        ensures others { SameReadsBut disk.device disk.first (sectors_of disk) (reads_of self.old) (reads_of self.new) }
+        requires { disk.first + sectors_of disk
+            ≤ device_length (device_of self.old.devices.items disk.device) }
+        ensures content { NowReadsAs (reads_of self.new) disk.device disk.first
+            (sectors_of disk) (history_of disk).now }
+        ensures others { SameReadsBut disk.device disk.first (sectors_of disk)
+            (reads_of self.old) (reads_of self.new) }
+        ensures taken { TakesDisk self.old self.new disk }
         ensures sizes { (name : List ℕ) → sizes_of self.new name ≡ sizes_of self.old name }
         ensures calls { ForgetsCalls disk.device self.old self.new }
         ensures rest { (bay_loans self.new ≡ bay_loans self.old)
@@ -185,7 +188,7 @@ impl Bay for MemBay {
     ghost use Rattle.era_disks.specs.Fuses.{LearnsFuse};
     ghost use Rattle.era_disks.specs.Calls.{NextFails, one_begun, one_more};
     ghost use Rattle.era_disks.specs.MemDisk.{place_of, sectors_of, history_of};
-    ghost use Rattle.era_disks.specs.MemBay.{sizes_of, reads_of, bay_loans, bay_faults, SameCalls, ForgetsCalls, IsFresh, WontLend};
+    ghost use Rattle.era_disks.specs.MemBay.{sizes_of, reads_of, bay_loans, bay_faults, SameCalls, ForgetsCalls, IsLentAnew, WontLend, CountsFault, TakesDisk};
 
     type D = MemDisk;
 
@@ -202,9 +205,7 @@ impl Bay for MemBay {
         ensures sizes { KeepsSizes (sizes_of self.old) (sizes_of self.new) }
         ensures reads { SameReads (reads_of self.old) (reads_of self.new) }
         ensures loans { bay_loans self.new ≡ bay_loans self.old }
-        ensures cause { HasBayCause (bay_faults self.old) (bay_faults self.new) result
-            × (IsErrOf result BayError.Failed
-            → bay_faults self.new ≡ one_more (bay_faults self.old)) }
+        ensures cause { CountsFault self.old self.new result }
         ensures refused { IsErrOf result BayError.Failed ↔ (NextFails self.old.calls.sizes
             ⊎ (sizes_of self.old name.now ≡ None)) }
         ensures never { IsErrOf result BayError.Memory → ⊥ }
@@ -223,10 +224,12 @@ impl Bay for MemBay {
 
     fn open_meta(&mut self, name: &str) -> Result<MemDisk, BayError>
         ensures lent { IfOk result (λ disk. (place_of disk
-            ≡ record { device = name.now; first = 0 }) × IsFresh self.old name.now disk) }
+            ≡ record { device = name.now; first = 0 }) × IsLentAnew self.old name.now disk) }
         ensures whole { IfOk result (λ disk. sizes_of self.new name.now ≡ Some (sectors_of disk)) }
-        ensures content { IfOk result (λ disk. ReadsAs (reads_of self.old) name.now 0 (sectors_of disk) (history_of disk).now) }
-        ensures free { IfOk result (λ disk. IsFree place_of sectors_of (bay_loans self.old) name.now 0 (sectors_of disk)) }
+        ensures content { IfOk result (λ disk.
+            ReadsAs (reads_of self.old) name.now 0 (sectors_of disk) (history_of disk).now) }
+        ensures free { IfOk result (λ disk.
+            IsFree place_of sectors_of (bay_loans self.old) name.now 0 (sectors_of disk)) }
         ensures loans { IfOk result (λ disk. bay_loans self.new ≡ bay_loans self.old
             ++ new_loan disk ∷ []) }
         ensures refused { OnErr result (bay_loans self.new ≡ bay_loans self.old)
@@ -236,9 +239,7 @@ impl Bay for MemBay {
             × SameReads (reads_of self.old) (reads_of self.new)
             × (self.new.calls ≡ record self.old.calls { metas = one_begun self.old.calls.metas })
             × SameCalls self.old self.new × (self.new.fuse ≡ self.old.fuse) }
-        ensures cause { HasBayCause (bay_faults self.old) (bay_faults self.new) result
-            × (IsErrOf result BayError.Failed
-            → bay_faults self.new ≡ one_more (bay_faults self.old)) }
+        ensures cause { CountsFault self.old self.new result }
     {
         if self.calls.metas.begin() {
             return self.refuse();
@@ -256,9 +257,11 @@ impl Bay for MemBay {
         requires { (size : ℕ) → sizes_of self.old name.now ≡ Some size → first + sectors ≤ size }
         ensures lent { IfOk result (λ disk. (place_of disk
             ≡ record { device = name.now; first = first })
-            × (sectors_of disk ≡ sectors) × IsFresh self.old name.now disk) }
-        ensures content { IfOk result (λ disk. ReadsAs (reads_of self.old) name.now first sectors (history_of disk).now) }
-        ensures free { OnOk result (IsFree place_of sectors_of (bay_loans self.old) name.now first sectors) }
+            × (sectors_of disk ≡ sectors) × IsLentAnew self.old name.now disk) }
+        ensures content { IfOk result (λ disk.
+            ReadsAs (reads_of self.old) name.now first sectors (history_of disk).now) }
+        ensures free { OnOk result
+            (IsFree place_of sectors_of (bay_loans self.old) name.now first sectors) }
         ensures loans { IfOk result (λ disk. bay_loans self.new ≡ bay_loans self.old
             ++ new_loan disk ∷ []) }
         ensures refused { OnErr result (bay_loans self.new ≡ bay_loans self.old)
@@ -268,9 +271,7 @@ impl Bay for MemBay {
             × SameReads (reads_of self.old) (reads_of self.new)
             × (self.new.calls ≡ record self.old.calls { parts = one_begun self.old.calls.parts })
             × SameCalls self.old self.new × (self.new.fuse ≡ self.old.fuse) }
-        ensures cause { HasBayCause (bay_faults self.old) (bay_faults self.new) result
-            × (IsErrOf result BayError.Failed
-            → bay_faults self.new ≡ one_more (bay_faults self.old)) }
+        ensures cause { CountsFault self.old self.new result }
     {
         if self.calls.parts.begin() {
             return self.refuse();
@@ -282,12 +283,17 @@ impl Bay for MemBay {
     }
 
     fn put_back(&mut self, disk: MemDisk)
-        requires { (index : ℕ) × IsOut place_of sectors_of (bay_loans self.old) (place_of disk) (sectors_of disk) index }
-        ensures loans { EndsLoan place_of sectors_of disk (bay_loans self.old) (bay_loans self.new) }
-        ensures content { NowReadsAs (reads_of self.new) disk.device disk.first (sectors_of disk) (history_of disk).now }
-        ensures others { SameReadsBut disk.device disk.first (sectors_of disk) (reads_of self.old) (reads_of self.new) }
-        ensures sizes { KeepsSizes (sizes_of self.old) (sizes_of self.new) }
-        ensures same { bay_faults self.new ≡ bay_faults self.old }
+        requires { (index : ℕ) × IsOut place_of sectors_of (bay_loans self.old)
+            (place_of disk) (sectors_of disk) index }
+        ensures loans { EndsLoan place_of sectors_of disk
+            (bay_loans self.old) (bay_loans self.new) }
+        ensures content { NowReadsAs (reads_of self.new) disk.device disk.first
+            (sectors_of disk) (history_of disk).now }
+        ensures others { SameReadsBut disk.device disk.first (sectors_of disk)
+            (reads_of self.old) (reads_of self.new) }
+        ensures taken { TakesDisk self.old self.new disk }
+        ensures same { KeepsSizes (sizes_of self.old) (sizes_of self.new)
+            × (bay_faults self.new ≡ bay_faults self.old) }
         ensures calls { ForgetsCalls disk.device self.old self.new }
         ensures fuse { LearnsFuse disk.fuse self.old.fuse self.new.fuse }
     {

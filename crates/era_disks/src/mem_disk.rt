@@ -34,8 +34,7 @@ pub struct MemDisk {
 
 impl MemDisk {
     ghost use Rattle.std.specs.Prelude.{◌≡◌, ℕ, [], Some, None, true, IfOk, OnOk, OnErr};
-    ghost use Rattle.era_base.specs.CrashModel.{IsClean, IsCrashImage};
-    ghost use Rattle.era_disks.specs.Tears.{IsFilled, TakesMemory};
+    ghost use Rattle.era_disks.specs.Crashed.{Crashes};
     ghost use Rattle.era_disks.specs.DiskCalls.{no_disk_calls, also_failing_call};
     ghost use Rattle.era_disks.specs.Fuses.{IsUnburnt};
     ghost use Rattle.era_disks.specs.MemDisk.{place_of, sectors_of, history_of, synced_in, past_of, faults_of, starved_of, blank_state, HasNewRecord};
@@ -113,16 +112,7 @@ impl MemDisk {
     /// and its fuse is out. Where memory is refused, which may be so for `Fill` alone, some of the pending sectors are
     /// torn, and all still pend.
     pub fn crash(&mut self, tear: Tear) -> Result<(), Memory>
-        ensures image { IsCrashImage (history_of self.old).now (history_of self.new).now.seen }
-        ensures clean { OnOk result (IsClean (history_of self.new).now
-            × (synced_in self.new ≡ (history_of self.new).now.seen)) }
-        ensures keep { tear ≡ Tear.Keep
-            → OnOk result ((history_of self.new).now.seen ≡ (history_of self.old).now.seen) }
-        ensures old { tear ≡ Tear.Old → OnOk result ((history_of self.new).now.seen
-            ≡ synced_in self.old) }
-        ensures fill { (byte : ℕ) → tear ≡ Tear.Fill byte
-            → OnOk result (IsFilled byte (history_of self.old).now (history_of self.new).now.seen) }
-        ensures full { OnErr result (TakesMemory tear) }
+        ensures torn { Crashes tear self.old.state self.new.state result }
         ensures anew { ((history_of self.new).past ≡ []) × HasNewRecord self.new
             × (self.new.fuse ≡ None) }
         ensures same { (place_of self.new ≡ place_of self.old)
@@ -181,11 +171,12 @@ impl Disk for MemDisk {
     fn read(&mut self, first: u64, into: &mut [u8]) -> Result<(), Failed>
         requires { LiesOn (sectors_of self.old) first (length into.old) }
         ensures told { Reads first into.new result (history_of self.old) (history_of self.new) }
-        ensures size { sectors_of self.new ≡ sectors_of self.old }
-        ensures place { place_of self.new ≡ place_of self.old }
+        ensures same { (sectors_of self.new ≡ sectors_of self.old)
+            × (place_of self.new ≡ place_of self.old) }
         ensures cause { HasCause (faults_of self.old) (faults_of self.new) result }
         ensures fails { Fails self.old.calls.reads self.old self.new result }
-        ensures noted { Notes (MadeCall.Read first (length into.old / 512)) self.old self.new result }
+        ensures noted { Notes (MadeCall.Read first (length into.old / 512))
+            self.old self.new result }
         ensures fuse { KeepsFuse self.old.fuse self.new.fuse }
         ensures calls { (self.new.calls
             ≡ record self.old.calls { reads = one_begun self.old.calls.reads })
@@ -213,15 +204,17 @@ impl Disk for MemDisk {
 
     fn write(&mut self, first: u64, bytes: &[u8]) -> Result<(), Failed>
         requires { LiesOn (sectors_of self.old) first (length bytes.now) }
-        ensures told { Writes first bytes.now result (history_of self.old) (history_of self.new) }
-        ensures size { sectors_of self.new ≡ sectors_of self.old }
-        ensures place { place_of self.new ≡ place_of self.old }
+        ensures told { Writes first bytes.now result (history_of self.old) (history_of self.new)
+            × (NextFails self.old.calls.writes ⊎ IsBurnt self.new.fuse
+            → (history_of self.new).now.seen ≡ (history_of self.old).now.seen) }
+        ensures same { (sectors_of self.new ≡ sectors_of self.old)
+            × (place_of self.new ≡ place_of self.old) }
         ensures cause { HasCause (faults_of self.old) (faults_of self.new) result }
         ensures fails { Fails self.old.calls.writes self.old self.new result }
-        ensures noted { Notes (MadeCall.Write first (length bytes.now / 512)) self.old self.new result }
-        ensures fuse { PassesFuse self.old.device (self.old.first + first) self.old.fuse self.new.fuse }
-        ensures bytes { NextFails self.old.calls.writes ⊎ IsBurnt self.new.fuse
-            → (history_of self.new).now.seen ≡ (history_of self.old).now.seen }
+        ensures noted { Notes (MadeCall.Write first (length bytes.now / 512))
+            self.old self.new result }
+        ensures fuse { PassesFuse self.old.device (self.old.first + first)
+            self.old.fuse self.new.fuse }
         ensures calls { (self.new.calls
             ≡ record self.old.calls { writes = one_begun self.old.calls.writes })
             × (synced_in self.new ≡ synced_in self.old) }
@@ -256,13 +249,14 @@ impl Disk for MemDisk {
 
     fn sync(&mut self) -> Result<(), Failed>
         ensures told { Syncs result (history_of self.old) (history_of self.new) }
-        ensures size { sectors_of self.new ≡ sectors_of self.old }
-        ensures place { place_of self.new ≡ place_of self.old }
+        ensures same { (sectors_of self.new ≡ sectors_of self.old)
+            × (place_of self.new ≡ place_of self.old) }
         ensures cause { HasCause (faults_of self.old) (faults_of self.new) result }
         ensures fails { Fails self.old.calls.syncs self.old self.new result }
         ensures noted { Notes MadeCall.Sync self.old self.new result }
         ensures fuse { KeepsFuse self.old.fuse self.new.fuse }
-        ensures calls { self.new.calls ≡ record self.old.calls { syncs = one_begun self.old.calls.syncs } }
+        ensures calls { self.new.calls
+            ≡ record self.old.calls { syncs = one_begun self.old.calls.syncs } }
         ensures synced { MatchResult result (λ _. synced_in self.new
             ≡ (history_of self.new).now.seen)
             (λ _. synced_in self.new ≡ synced_in self.old) }

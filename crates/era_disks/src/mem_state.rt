@@ -54,7 +54,8 @@ impl MemState {
     pub fn mark(&mut self, first: usize, sectors: usize)
         requires { first + sectors ≤ length self.old.rows.items }
         ensures rows { self.new.rows.items ≡ self.old.rows.items }
-        ensures same { SameBut (first * 512) (first * 512 + sectors * 512) (state_of self.old) (state_of self.new) }
+        ensures same { SameBut (first * 512) (first * 512 + sectors * 512)
+            (state_of self.old) (state_of self.new) }
         ensures marked { IsMarked first (sectors * 512) (state_of self.new) }
         ensures marks { OnlyMarks first (sectors * 512) (state_of self.old) (state_of self.new) }
         ensures flags { take sectors (drop first self.new.pending.items) ≡ replicate sectors true }
@@ -76,7 +77,8 @@ impl MemState {
         ensures size { length self.new.rows.items ≡ length self.old.rows.items }
         ensures written { OnOk result ((state_of self.new).seen
             ≡ splice (state_of self.old).seen (first * 512) bytes.now) }
-        ensures same { SameBut (first * 512) (first * 512 + length bytes.now) (state_of self.old) (state_of self.new) }
+        ensures same { SameBut (first * 512) (first * 512 + length bytes.now)
+            (state_of self.old) (state_of self.new) }
         ensures synced { synced_of self.new ≡ synced_of self.old }
     {
         let sectors = bytes.len() / 512;

@@ -32,7 +32,7 @@ impl PlainBay {
     ghost use Rattle.era_disks.specs.Calls.{one_more};
     ghost use Rattle.era_disks.specs.PlainDisk.{plain_place, plain_sectors};
     ghost use Rattle.era_disks.specs.PlainDevices.{plain_length};
-    ghost use Rattle.era_disks.specs.PlainBay.{plain_sizes, plain_reads, plain_loans, plain_faults, SameDevices, HoldsPart, IsFreeIn, IsLent, IsOutOf, TakesIn, CountsRefusal};
+    ghost use Rattle.era_disks.specs.PlainBay.{plain_sizes, plain_reads, plain_loans, plain_faults, SameDevices, HoldsPart, IsFreeIn, IsPlainPart, IsOutOf, TakesIn, CountsRefusal};
 
     /// A bay that holds no device. It takes no memory.
     pub fn new(alloc: Global) -> PlainBay
@@ -61,7 +61,7 @@ impl PlainBay {
             × (plain_faults self.new ≡ plain_faults self.old) }
     {
         let key = String::from_str(self.alloc, name)?;
-        let device = PlainDisk::new(self.alloc, name, 0, sectors)?;
+        let device = PlainDisk::new(self.alloc, name, sectors)?;
         match self.devices.insert(key, device) {
             Ok(_) => Ok(()),
             Err(_) => Err(Memory),
@@ -104,7 +104,7 @@ impl PlainBay {
     /// Lends a part of a device.
     fn lend(&mut self, name: &str, first: u64, sectors: u64) -> Result<PlainDisk, Memory>
         requires { HoldsPart self.old name.now first sectors }
-        ensures lent { IfOk result (λ disk. IsLent self.old name.now first sectors disk) }
+        ensures lent { IfOk result (λ disk. IsPlainPart self.old name.now first sectors disk) }
         ensures loans { IfOk result (λ disk.
             plain_loans self.new ≡ plain_loans self.old ++ new_loan disk ∷ []) }
         ensures err { OnErr result (plain_loans self.new ≡ plain_loans self.old) }
@@ -124,7 +124,7 @@ impl PlainBay {
     /// Lends a part of a device, where no sector of it is lent.
     fn open_at(&mut self, name: &str, first: u64, sectors: u64) -> Result<PlainDisk, BayError>
         requires { HoldsPart self.old name.now first sectors }
-        ensures lent { IfOk result (λ disk. IsLent self.old name.now first sectors disk) }
+        ensures lent { IfOk result (λ disk. IsPlainPart self.old name.now first sectors disk) }
         ensures free { OnOk result (IsFreeIn self.old name.now first sectors) }
         ensures loans { IfOk result (λ disk.
             plain_loans self.new ≡ plain_loans self.old ++ new_loan disk ∷ []) }
@@ -173,7 +173,7 @@ impl Bay for PlainBay {
     ghost use Rattle.std.specs.Prelude.{◌≡◌, ◌↔◌, ℕ, ◌+◌, ◌≤◌, [], ◌∷◌, ◌++◌, Some, None, IfOk, OnOk, OnErr, IsErrOf};
     ghost use Rattle.era_base.specs.Bay.{new_loan, EndsLoan};
     ghost use Rattle.era_disks.specs.PlainDisk.{plain_place, plain_sectors};
-    ghost use Rattle.era_disks.specs.PlainBay.{plain_sizes, plain_reads, plain_loans, plain_faults, SameDevices, IsFreeIn, IsLent, IsOutOf, TakesIn, IsKeptBack, CountsRefusal};
+    ghost use Rattle.era_disks.specs.PlainBay.{plain_sizes, plain_reads, plain_loans, plain_faults, SameDevices, IsFreeIn, IsPlainPart, IsOutOf, TakesIn, IsKeptBack, CountsRefusal};
 
     type D = PlainDisk;
 
@@ -200,7 +200,8 @@ impl Bay for PlainBay {
     }
 
     fn open_meta(&mut self, name: &str) -> Result<PlainDisk, BayError>
-        ensures lent { IfOk result (λ disk. IsLent self.old name.now 0 (plain_sectors disk) disk) }
+        ensures lent { IfOk result (λ disk.
+            IsPlainPart self.old name.now 0 (plain_sectors disk) disk) }
         ensures whole { IfOk result (λ disk.
             plain_sizes self.new name.now ≡ Some (plain_sectors disk)) }
         ensures free { IfOk result (λ disk. IsFreeIn self.old name.now 0 (plain_sectors disk)) }
@@ -219,7 +220,7 @@ impl Bay for PlainBay {
 
     fn open_part(&mut self, name: &str, first: u64, sectors: u64) -> Result<PlainDisk, BayError>
         requires { (size : ℕ) → plain_sizes self.old name.now ≡ Some size → first + sectors ≤ size }
-        ensures lent { IfOk result (λ disk. IsLent self.old name.now first sectors disk) }
+        ensures lent { IfOk result (λ disk. IsPlainPart self.old name.now first sectors disk) }
         ensures free { OnOk result (IsFreeIn self.old name.now first sectors) }
         ensures loans { IfOk result (λ disk.
             plain_loans self.new ≡ plain_loans self.old ++ new_loan disk ∷ []) }

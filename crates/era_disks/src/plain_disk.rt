@@ -22,10 +22,10 @@ impl PlainDisk {
     ghost use Rattle.era_disks.specs.PlainDisk.{plain_place, plain_sectors, plain_history, plain_room, IsUnused};
     ghost use Rattle.era_disks.specs.PlainPast.{plain_state};
 
-    /// A disk of zeros. No later call of it takes memory.
-    pub fn new(alloc: Global, name: &str, first: u64, sectors: u64) -> Result<PlainDisk, Memory>
+    /// A whole device of zeros. No later call of it takes memory.
+    pub fn new(alloc: Global, name: &str, sectors: u64) -> Result<PlainDisk, Memory>
         ensures place { IfOk result (λ disk. plain_place disk
-            ≡ record { device = name.now; first = first }) }
+            ≡ record { device = name.now; first = 0 }) }
         ensures size { IfOk result (λ disk. plain_sectors disk ≡ sectors) }
         ensures zeros { IfOk result (λ disk. (plain_history disk).now.seen
             ≡ replicate (sectors * 512) 0) }
@@ -36,7 +36,7 @@ impl PlainDisk {
         };
         let device = Name::from_text(alloc, name)?;
         let bytes = vec![in alloc; 0; size as usize]?;
-        Ok(PlainDisk::of(device, first, sectors, bytes))
+        Ok(PlainDisk::of(device, 0, sectors, bytes))
     }
 
     /// A disk of these bytes at a place. It takes no memory.
@@ -104,7 +104,8 @@ impl Disk for PlainDisk {
 
     fn read(&mut self, first: u64, into: &mut [u8]) -> Result<(), Failed>
         requires { LiesOn (plain_sectors self.old) first (length into.old) }
-        ensures told { Reads first into.new result (plain_history self.old) (plain_history self.new) }
+        ensures told { Reads first into.new result
+            (plain_history self.old) (plain_history self.new) }
         ensures size { plain_sectors self.new ≡ plain_sectors self.old }
         ensures place { plain_place self.new ≡ plain_place self.old }
         ensures cause { HasCause 0 0 result }
@@ -118,7 +119,8 @@ impl Disk for PlainDisk {
 
     fn write(&mut self, first: u64, bytes: &[u8]) -> Result<(), Failed>
         requires { LiesOn (plain_sectors self.old) first (length bytes.now) }
-        ensures told { Writes first bytes.now result (plain_history self.old) (plain_history self.new) }
+        ensures told { Writes first bytes.now result
+            (plain_history self.old) (plain_history self.new) }
         ensures size { plain_sectors self.new ≡ plain_sectors self.old }
         ensures place { plain_place self.new ≡ plain_place self.old }
         ensures cause { HasCause 0 0 result }

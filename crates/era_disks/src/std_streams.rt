@@ -1,8 +1,11 @@
 //! The standard streams as a source and a sink: nothing is kept back between two calls.
 
-ghost use Rattle.std.specs.Prelude.{◌≡◌, ◌≤◌, None, length, IfOk};
+ghost use Rattle.std.specs.Prelude.{◌≡◌, ◌≤◌, None, length, IfOk, OnOk};
+ghost use Rattle.era_base.specs.Faults.{HasCause};
+ghost use Rattle.era_disks.specs.LastLines.{TextEnd, KeepsEnd, end_after, no_text};
 
 use crate::fault_count::FaultCount;
+use crate::last_lines::LastLines;
 use era_base::{Failed, Sink, Source};
 use std::io;
 use std::io::{ErrorKind, Read, Write};
@@ -67,23 +70,33 @@ fn read_some<I: Read>(input: &mut I, into: &mut [u8]) -> io::Result<usize>
     Err(ErrorKind::Interrupted.into())
 }
 
-/// A sink over a writer, as standard output. Each give writes through.
+/// A sink over a writer, as standard output. Each give writes through. The last lines are kept as far as they are short.
 #[derive(Drop)]
 pub struct StdSink<O: Write + Drop> {
     output: O,
     faults: FaultCount,
+    lines: LastLines,
 }
 
 impl<O: Write + Drop> StdSink<O> {
     /// What is given goes to the writer.
     pub fn new(output: O) -> StdSink<O>
-        ensures { (result.output ≡ output) × (result.faults.count ≡ 0)
+        ensures fresh { (result.output ≡ output) × (result.faults.count ≡ 0)
             × (result.faults.first ≡ None) }
+        ensures lines { KeepsEnd no_text result.lines }
     {
         StdSink {
             output,
             faults: FaultCount::new(),
+            lines: LastLines::new(),
         }
+    }
+
+    /// The last lines of what was given.
+    pub fn lines(&self) -> &LastLines
+        ensures { result.now ≡ self.now.lines }
+    {
+        &self.lines
     }
 
     /// The system's reason of the first failure.
@@ -99,9 +112,16 @@ impl<O: Write + Drop> Sink for StdSink<O> {
 
     ghost faults = { λ s. s.faults.count };
 
-    fn give(&mut self, bytes: &[u8]) -> Result<(), Failed> {
+    fn give(&mut self, bytes: &[u8]) -> Result<(), Failed>
+        ensures cause { HasCause self.old.faults.count self.new.faults.count result }
+        ensures lines { (end : TextEnd) → KeepsEnd end self.old.lines
+            → OnOk result (KeepsEnd (end_after end bytes.now) self.new.lines) }
+    {
         match write_through(&mut self.output, bytes) {
-            Ok(()) => Ok(()),
+            Ok(()) => {
+                self.lines.add(bytes);
+                Ok(())
+            }
             Err(reason) => {
                 self.faults.rise(reason);
                 Err(Failed)

@@ -75,6 +75,13 @@ impl TextSink {
         self.bytes.as_slice()
     }
 
+    /// How often it was given something, or failed to take it.
+    pub fn gives(&self) -> u64
+        ensures { result ≡ self.now.gives }
+    {
+        self.gives
+    }
+
     /// How often memory was refused.
     pub fn starved(&self) -> u64
         ensures { result ≡ starved_of self.now }
@@ -107,7 +114,8 @@ impl Sink for TextSink {
     ghost faults = { sink_faults };
 
     fn give(&mut self, bytes: &[u8]) -> Result<(), Failed>
-        ensures given { GivesTo (Some (given_to self.old)) (Some (given_to self.new)) bytes.now result }
+        ensures given { GivesTo (Some (given_to self.old)) (Some (given_to self.new))
+            bytes.now result }
         ensures named { (taken : ℕ) → next_taken self.old ≡ Some taken → IsErr result
             × GivesListed taken bytes.now self.old self.new }
         ensures only { next_taken self.old ≡ None → GivesWhole bytes.now self.old self.new result }

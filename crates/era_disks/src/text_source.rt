@@ -60,7 +60,8 @@ impl Source for TextSource {
 
     fn take(&mut self, into: &mut [u8]) -> Result<usize, Failed>
         ensures fits { IfOk result (λ count. count ≤ length into.old) }
-        ensures taken { TakesFrom (Some (left_in self.old)) (Some (left_in self.new)) into.new result }
+        ensures taken { TakesFrom (Some (left_in self.old)) (Some (left_in self.new))
+            into.new result }
         ensures fails { IsErr result ↔ NextFails self.old.takes }
         ensures cause { HasCause (source_faults self.old) (source_faults self.new) result }
         ensures faults { CountsFailure (source_faults self.old) (source_faults self.new) result }

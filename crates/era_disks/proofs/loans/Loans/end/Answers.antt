@@ -2,7 +2,7 @@ use Rattle.std.proofs.Common.{Some, List, slice_get, refl, sym, ◌∙◌, ap}
 use Rattle.std.proofs.lemmas.Option.{slice_get_within, same_Some}
 use Rattle.era_base.specs.Disk.{Place}
 use Rattle.era_disks.specs.declared.loan_entry.LoanEntry.{LoanEntry}
-use Rattle.era_disks.specs.Loans.{IsPlaced}
+use Rattle.era_disks.specs.Loans.{IsEntryPlaced}
 use Rattle.era_disks.proofs.Entries.{all_at-set, out-entry, ends-last, last_along, loan-ended, read_at}
 use Rattle.era_disks.proofs.loans.Loans.end.Goals as goal
 
@@ -14,7 +14,7 @@ invariant_of-self g c =
     let is = c.args.self.now.placed c.in-Some.index c.index_mut.result.now
     (read_at c.args.self.now.entries.items c.in-Some.index c.index_mut.result.now within c.index_mut.ensures.value) in
     record {
-      placed = all_at-set (IsPlaced g.D.Disk.place g.D.Disk.sectors) c.args.self.now.entries.items c.in-Some.index _
+      placed = all_at-set (IsEntryPlaced g.D.Disk.place g.D.Disk.sectors) c.args.self.now.entries.items c.in-Some.index _
           c.args.self.now.placed
           (record { same_device = is.same_device; same_first = is.same_first; same_size = is.same_size });
     }

@@ -1,9 +1,13 @@
 use Rattle.std.proofs.Common.{◌≡◌, ◌+◌, ◌≤◌, ℕ, List, length, take, drop, ◌++◌, ◌∷◌, [], None, arith, sym, ◌∙◌, ap, subst}
+use Rattle.std.proofs.lemmas.Option.{same_Some}
 use Rattle.era_base.specs.Bay.{Loan, new_loan}
 use Rattle.era_base.specs.Disk.{Place}
 use Rattle.era_disks.specs.Loans.{loans_of}
 use Rattle.era_disks.specs.MemDisk.{place_of, sectors_of}
-use Rattle.era_disks.specs.Devices.{LieWithin, device_of, device_length}
+use Rattle.era_disks.specs.Devices.{LieWithin, device_of, device_length, device_state, device_calls}
+use Rattle.era_disks.specs.DiskCalls.{restarted_calls}
+use Rattle.era_disks.specs.Fuses.{SameFuse}
+use Rattle.era_disks.specs.MemParts.{IsPartOf}
 use Rattle.era_disks.specs.declared.device.Device.{Device}
 use Rattle.era_disks.specs.declared.mem_disk.MemDisk.{MemDisk}
 use Rattle.era_disks.specs.declared.loan_entry.LoanEntry.{LoanEntry}
@@ -35,7 +39,23 @@ returns-clause-place c =
     c.in_ok-disk.ensures.place
     ∙ ap (λ (n : List ℕ). let p : Place = record { device = n; first = c.args.first } in p) (ap (λ (d : Device). d.name) here ∙ c.requires.found.named)
 
-pub returns-clause-rows : goal.returns-clause-rows
-returns-clause-rows c = λ found.
+pub returns-clause-anew : goal.returns-clause-anew
+returns-clause-anew c =
+    let found = c.requires.found in
     let here = found-device c.args.self.now.devices.items c.args.name.now c.args.index found c.index.result.now c.index.ensures in
-    c.in_ok-disk.ensures.rows ∙ ap (λ (d : Device). take c.args.sectors (drop c.args.first d.state.rows.items)) here
+    let disk = c.in_ok-disk.disk in
+    let first : disk.first ≡ c.args.first = ap (λ (p : Place). p.first) c.in_ok-disk.ensures.place in
+    record {
+      part = λ whole told.
+          let same : found.device.state ≡ whole = same_Some found.device.state whole (sym (ap device_state found.found) ∙ told) in
+          subst (λ n. IsPartOf n (sectors_of disk) whole disk.state) (sym first)
+          (subst (λ n. IsPartOf c.args.first n whole disk.state) (sym c.in_ok-disk.ensures.size)
+          (subst (λ w. IsPartOf c.args.first c.args.sectors w disk.state) (ap (λ (d : Device). d.state) here ∙ same) c.in_ok-disk.ensures.part));
+      calls = λ calls told.
+          c.in_ok-disk.ensures.calls
+          ∙ ap restarted_calls (ap (λ (d : Device). d.calls) here ∙ same_Some found.device.calls calls (sym (ap device_calls found.found) ∙ told));
+      faults = c.in_ok-disk.ensures.fresh.0;
+      starved = c.in_ok-disk.ensures.fresh.1;
+      fuse = subst (SameFuse c.args.self.now.fuse) (sym c.in_ok-disk.ensures.fuse) c.in_ok-fuse.ensures;
+      made = c.in_ok-disk.ensures.fresh.2;
+    }

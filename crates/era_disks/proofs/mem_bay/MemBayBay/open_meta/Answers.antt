@@ -40,12 +40,12 @@ returns-in-Some-clause-refused c =
     c.sectors-sectors.ensures ∙ ap (λ (d : Device). length d.state.rows.items) here in
     let told = ap device_size found.found in
     let refused_at = IsRefusedAt c.args.self.now c.args.name.now 0 in (
-      c.open_at.ensures.refused,
+      c.open_at.ensures.refused.0,
       (
-        λ failed. inr (λ n is. subst refused_at (size ∙ same_Some (length found.device.state.rows.items) n (sym told ∙ is)) (c.open_at.ensures.why.0 failed)),
+        λ failed. inr (λ n is. subst refused_at (size ∙ same_Some (length found.device.state.rows.items) n (sym told ∙ is)) (c.open_at.ensures.refused.1.0 failed)),
         λ wont. elim wont [
           | inl fails ↦ absurd (false≢true (sym c.if-begin.false ∙ c.begin.ensures.fails.1 fails))
-          | inr refused ↦ c.open_at.ensures.why.1 (subst refused_at (sym size) (refused (length found.device.state.rows.items) told))
+          | inr refused ↦ c.open_at.ensures.refused.1.1 (subst refused_at (sym size) (refused (length found.device.state.rows.items) told))
         ],
       ),
     )
