@@ -8,8 +8,8 @@ use Rattle.era_base.specs.declared.geometry.Geometry.{Geometry}
 use Rattle.era_base.specs.Bytes.{splice, part}
 use Rattle.era_base.specs.CrashModel.{State}
 use Rattle.era_model.specs.Writes.{block_bytes}
-use Rattle.era_plan.specs.declared.task.Write.{Write}
-use Rattle.era_top.specs.Steps.{IsPlaced, IsTorn}
+use Rattle.era_top.specs.Runs.{Write}
+use Rattle.era_top.specs.Steps.{LiesInBlock, IsTorn}
 use Rattle.era_top.proofs.Splices.{part-other, part-same, part-agrees, part-past}
 
 -- a block before another one ends before that one begins
@@ -25,11 +25,11 @@ pub sectors-fit : (first count limit : ℕ) → first + count / 512 ≤ limit �
 sectors-fit first count limit fits whole = omega arith
 
 -- where a write stands in its block, in bytes
-write-begins : (g : Geometry) (write : Write) (place : ℕ × ℕ) → IsPlaced g write place → write.sector * 512 ≡ place.0 * g.block_sectors * 512 + place.1 * 512
+write-begins : (g : Geometry) (write : Write) (place : ℕ × ℕ) → LiesInBlock g write place → write.sector * 512 ≡ place.0 * g.block_sectors * 512 + place.1 * 512
 write-begins g write place placed = ap (λ n. n * 512) (sym placed.sector) ∙ in_bytes (place.0 * g.block_sectors) place.1
 
 -- a block that the write isn't in ends before the write begins, or begins behind it
-write-apart : (g : Geometry) (write : Write) (place : ℕ × ℕ) (block : ℕ) → IsPlaced g write place → length write.bytes % 512 ≡ 0 → place.0 ≢ block
+write-apart : (g : Geometry) (write : Write) (place : ℕ × ℕ) (block : ℕ) → LiesInBlock g write place → length write.bytes % 512 ≡ 0 → place.0 ≢ block
     → write.sector * 512 < block * g.block_sectors * 512 + g.block_sectors * 512 → write.sector * 512 + length write.bytes ≤ block * g.block_sectors * 512
 write-apart g write place block placed whole other begins = elim (cases_lt place.0 block) [
   | inl before ↦
@@ -53,7 +53,7 @@ write-apart g write place block placed whole other begins = elim (cases_lt place
     begin-behind b a s first at rows is begins = omega arith
 
 -- a write changes its block as it changes the block's content, and no other block
-pub stored-block : (g : Geometry) (write : Write) (place : ℕ × ℕ) (block : ℕ) (seen : List ℕ) → IsPlaced g write place → length write.bytes % 512 ≡ 0 → length seen ≡ g.sectors * 512
+pub stored-block : (g : Geometry) (write : Write) (place : ℕ × ℕ) (block : ℕ) (seen : List ℕ) → LiesInBlock g write place → length write.bytes % 512 ≡ 0 → length seen ≡ g.sectors * 512
     → block_bytes g.block_sectors (splice seen (write.sector * 512) write.bytes) block
     ≡ (if place.0 == block then splice (block_bytes g.block_sectors seen block) (place.1 * 512) write.bytes else block_bytes g.block_sectors seen block)
 stored-block g write place block seen placed whole size =
@@ -74,7 +74,7 @@ past-in-block : (a first count at offset : ℕ) → at ≡ a * 512 + first → (
 past-in-block a first count at offset is outside begins = let past : first + count ≤ offset = past-both first offset (first + count) outside (omega arith) in omega arith
 
 -- a byte of a block outside of the write's range lies outside of it on the disk
-pub outside-write : (g : Geometry) (write : Write) (place : ℕ × ℕ) (block offset : ℕ) → IsPlaced g write place → length write.bytes % 512 ≡ 0 → offset < g.block_sectors * 512
+pub outside-write : (g : Geometry) (write : Write) (place : ℕ × ℕ) (block offset : ℕ) → LiesInBlock g write place → length write.bytes % 512 ≡ 0 → offset < g.block_sectors * 512
     → ((place.0 == block) && (nat_le (place.1 * 512) offset && nat_lt offset (place.1 * 512 + length write.bytes))) ≡ false
     → (write.sector * 512 ≤ block * g.block_sectors * 512 + offset → write.sector * 512 + length write.bytes ≤ block * g.block_sectors * 512 + offset)
 outside-write g write place block offset placed whole within outside begins = elim (eqb_tells place.0 block) [
@@ -85,7 +85,7 @@ outside-write g write place block offset placed whole within outside begins = el
 ]
 
 -- what a failed write or sync leaves of a block, outside of the write's range
-pub torn-block : (g : Geometry) (write : Write) (place : ℕ × ℕ) (block offset : ℕ) (old new : State) → IsPlaced g write place → length write.bytes % 512 ≡ 0 → IsTorn write old new
+pub torn-block : (g : Geometry) (write : Write) (place : ℕ × ℕ) (block offset : ℕ) (old new : State) → LiesInBlock g write place → length write.bytes % 512 ≡ 0 → IsTorn write old new
     → ((place.0 == block) && (nat_le (place.1 * 512) offset && nat_lt offset (place.1 * 512 + length write.bytes))) ≡ false
     → get_or (block_bytes g.block_sectors new.seen block) offset 0 ≡ get_or (block_bytes g.block_sectors old.seen block) offset 0
 torn-block g write place block offset old new placed whole torn outside = elim (cases_lt offset (g.block_sectors * 512)) [

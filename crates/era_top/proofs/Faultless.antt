@@ -89,7 +89,7 @@ session-never words sizes left g around session Done is servable refusing cause 
 session-never words sizes left g around session Usage is servable refusing cause = cause
 session-never words sizes left g around session Line is servable refusing cause =
     let first = cause.1.2 servable.text (is ∙ servable.stream) in
-    first.refused _ (SpellRound-take cause.1.0 (lines_of servable.text) servable.tasks servable.spelled)
+    first.refused _ (SpellRound-take cause.1.0 (lines_of servable.text) servable.commands servable.spelled)
 session-never words sizes left g around session Fault is servable refusing cause = refusing
 session-never words sizes left g around session Memory is servable refusing cause = refusing
 session-never words sizes left g around session Refused is servable refusing cause = cause

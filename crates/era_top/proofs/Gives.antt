@@ -1,5 +1,5 @@
--- What stands at a sink after several gives.
-use Rattle.std.proofs.Common.{◌≡◌, ℕ, zero, suc, ◌+◌, ◌<◌, List, [], ◌∷◌, ◌++◌, length, get_or, take, drop, ◌≤◌, refl, ap, sym, ◌∙◌, subst, append_assoc, length-append, arith}
+-- What is gathered and given of a text after several parts of it.
+use Rattle.std.proofs.Common.{◌≡◌, ℕ, zero, suc, ◌+◌, ◌<◌, List, [], ◌∷◌, ◌++◌, length, get_or, take, drop, ◌≤◌, refl, ap, sym, ◌∙◌, subst, append_assoc, length-append, inl, inr, arith}
 use Rattle.std.specs.Prelude.{Option, Some, Result, Ok, Err, codes}
 use Rattle.std.proofs.Math.Seq.{take-append-add}
 use Rattle.std.proofs.lemmas.List.{take-append-le, take_more, drop_more, drop_all, append-nil, flat_map_more}
@@ -7,7 +7,12 @@ use Rattle.era_top.specs.declared.part.Part.{Part}
 use Rattle.era_top.specs.declared.outcome.Outcome.{Outcome}
 use Rattle.era_top.specs.Parts.{part_text, parts_text}
 use Rattle.era_top.specs.Outcomes.{event_count, outcome_line, outcomes_text}
-use Rattle.era_base.specs.Streams.{GivesFront, GivesTo}
+use Rattle.era_base.specs.Streams.{GivesFront}
+use Rattle.era_line.specs.declared.text_buffer.TextBuffer.{TextBuffer}
+use Rattle.era_line.specs.TextBuffer.{Gathers, IsEmpty, Adds}
+use Rattle.era_top.specs.declared.status.Status.{Status}
+use Rattle.era_top.specs.Gathered.{PrintsBehind}
+use Rattle.era_top.specs.Sessions.{Prints}
 use Rattle.era_model.specs.Transcript.{more_runs_text, run_text}
 
 -- a front of a piece, given behind what was done, is a front of all
@@ -38,78 +43,112 @@ pub outcomes_text-next : (outcomes : List Outcome) (i line place : ℕ) (outcome
 outcomes_text-next outcomes i line place outcome h is =
     ap (outcomes_text line place) (drop_more outcomes i outcome h ∙ ap (λ (o : Outcome). o ∷ drop (i + 1) outcomes) (sym is))
 
--- replies of which some stand at a sink, and with those that are left they are all
-abbrev pub StandBefore : List Outcome → ℕ → ℕ → ℕ → Option (List ℕ) → Option (List ℕ) → Type 0
-StandBefore outcomes i line place first now =
-    (done : List ℕ)
-    × (outcomes_text 1 0 outcomes ≡ done ++ outcomes_text line place (drop i outcomes))
-    × ((before : List ℕ) → first ≡ Some before → now ≡ Some (before ++ done))
+-- a front of a text is one of a longer text
+pub gives_front-longer : (before text more : List ℕ) (after : Option (List ℕ)) → GivesFront before text after → GivesFront before (text ++ more) after
+gives_front-longer before text more after front =
+    gives_front-within before [] text more after (subst (λ bytes. GivesFront bytes text after) (sym (append-nil before)) front)
 
--- one reply more was given
-pub stand_before-next : (outcomes : List Outcome) (i line place count : ℕ) (outcome : Outcome) (first old new : Option (List ℕ))
-    → i < length outcomes → outcome ≡ get_or outcomes i outcome → StandBefore outcomes i line place first old
-    → ((before : List ℕ) → old ≡ Some before → new ≡ Some (before ++ outcome_line line place outcome))
+-- what was gathered of a text has grown by these bytes
+abbrev pub HasAdded : Option (List ℕ) → TextBuffer → Option (List ℕ) → TextBuffer → List ℕ → Type 0
+HasAdded given buffer given' buffer' bytes =
+    (before text : List ℕ) → Gathers before text given buffer → Gathers before (text ++ bytes) given' buffer'
+
+-- of what was gathered of a text and of these bytes a front was given
+abbrev pub HasCut : Option (List ℕ) → TextBuffer → Option (List ℕ) → List ℕ → Type 0
+HasCut given buffer given' bytes =
+    (before text : List ℕ) → Gathers before text given buffer → GivesFront before (text ++ bytes) given'
+
+-- bytes and more bytes
+pub added-then : (given given' given'' : Option (List ℕ)) (buffer buffer' buffer'' : TextBuffer) (first rest : List ℕ)
+    → HasAdded given buffer given' buffer' first → HasAdded given' buffer' given'' buffer'' rest → HasAdded given buffer given'' buffer'' (first ++ rest)
+added-then given given' given'' buffer buffer' buffer'' first rest one more = λ before text is.
+    subst (λ all. Gathers before all given'' buffer'') (append_assoc text first rest) (more before (text ++ first) (one before text is))
+
+-- bytes, and a piece of which a front was given
+pub cut-then : (given given' given'' : Option (List ℕ)) (buffer buffer' : TextBuffer) (first piece rest : List ℕ)
+    → HasAdded given buffer given' buffer' first → HasCut given' buffer' given'' piece → HasCut given buffer given'' (first ++ (piece ++ rest))
+cut-then given given' given'' buffer buffer' first piece rest one cut = λ before text is.
+    subst (λ all. GivesFront before all given'')
+    (append_assoc (text ++ first) piece rest ∙ append_assoc text first (piece ++ rest))
+    (gives_front-longer before ((text ++ first) ++ piece) rest given'' (cut before (text ++ first) (one before text is)))
+
+-- a text whose first part was cut
+pub cut-first : (given given' : Option (List ℕ)) (buffer : TextBuffer) (first rest : List ℕ) → HasCut given buffer given' first → HasCut given buffer given' (first ++ rest)
+cut-first given given' buffer first rest cut = λ before text is.
+    subst (λ all. GivesFront before all given') (append_assoc text first rest) (gives_front-longer before (text ++ first) rest given' (cut before text is))
+
+-- a text behind another one
+pub adds-then : {T E : Type 0} (given given' given'' : Option (List ℕ)) (buffer buffer' buffer'' : TextBuffer) (first rest : List ℕ) (result : Result T E)
+    → HasAdded given buffer given' buffer' first → Adds given' buffer' given'' buffer'' rest result → Adds given buffer given'' buffer'' (first ++ rest) result
+adds-then given given' given'' buffer buffer' buffer'' first rest (Ok value) one adds = added-then given given' given'' buffer buffer' buffer'' first rest one adds
+adds-then given given' given'' buffer buffer' buffer'' first rest (Err error) one adds = λ before text is.
+    subst (λ all. GivesFront before all given'') (append_assoc text first rest) (adds before (text ++ first) (one before text is))
+
+-- the only bytes of a text
+pub prints-fresh : (given given' : Option (List ℕ)) (buffer : TextBuffer) (bytes : List ℕ) (ended result : Status) → IsEmpty buffer
+    → PrintsBehind given buffer given' bytes ended result → Prints given given' bytes ended result
+prints-fresh given given' buffer bytes ended result empty printed = elim printed [
+  | inl all ↦ inl (all.0, (λ before is. all.1 before [] (empty before given is)))
+  | inr some ↦ inr (some.0, (λ before is. some.1 before [] (empty before given is)))
+]
+
+-- the last bytes of a text behind its first ones
+pub prints-added : (given given' given'' : Option (List ℕ)) (buffer buffer' : TextBuffer) (first rest : List ℕ) (ended result : Status) → IsEmpty buffer
+    → HasAdded given buffer given' buffer' first → PrintsBehind given' buffer' given'' rest ended result → Prints given given'' (first ++ rest) ended result
+prints-added given given' given'' buffer buffer' first rest ended result empty added printed = elim printed [
+  | inl all ↦ inl (all.0, (λ before is. all.1 before first (added before [] (empty before given is))))
+  | inr some ↦ inr (some.0, (λ before is. some.1 before first (added before [] (empty before given is))))
+]
+
+-- replies of which some were added, and with those that are left they are all
+abbrev pub StandBefore : List Outcome → ℕ → ℕ → ℕ → (List ℕ → Type 0) → Type 0
+StandBefore outcomes i line place IsAdded =
+    (done : List ℕ) × (outcomes_text 1 0 outcomes ≡ done ++ outcomes_text line place (drop i outcomes)) × IsAdded done
+
+-- one reply more was added
+pub stand_before-next : (outcomes : List Outcome) (i line place count : ℕ) (outcome : Outcome) (first old new : Option (List ℕ)) (first' old' new' : TextBuffer)
+    → i < length outcomes → outcome ≡ get_or outcomes i outcome → StandBefore outcomes i line place (HasAdded first first' old old')
+    → HasAdded old old' new new' (outcome_line line place outcome)
     → count ≡ event_count outcome
-    → StandBefore outcomes (i + 1) (line + 1) (place + count) first new
-stand_before-next outcomes i line place count outcome first old new here is stand gives counted =
+    → StandBefore outcomes (i + 1) (line + 1) (place + count) (HasAdded first first' new new')
+stand_before-next outcomes i line place count outcome first old new first' old' new' here is stand adds counted =
     let reply = outcome_line line place outcome in (
       stand.0 ++ reply,
       stand.1
           ∙ ap (λ bytes. stand.0 ++ bytes) (outcomes_text-next outcomes i line place outcome here is)
           ∙ sym (append_assoc stand.0 reply _)
           ∙ ap (λ n. (stand.0 ++ reply) ++ outcomes_text (line + 1) (place + n) (drop (i + 1) outcomes)) (sym counted),
-      (λ before told. gives (before ++ stand.0) (stand.2 before told) ∙ ap (λ bytes. Some bytes) (append_assoc before stand.0 reply)),
+      added-then first old new first' old' new' stand.0 reply stand.2 adds,
     )
 
--- all replies stand there once none is left
-pub stand_before-end : (outcomes : List Outcome) (i line place : ℕ) (first now : Option (List ℕ))
-    → length outcomes ≤ i → StandBefore outcomes i line place first now
-    → (before : List ℕ) → first ≡ Some before → now ≡ Some (before ++ outcomes_text 1 0 outcomes)
-stand_before-end outcomes i line place first now past stand before is =
-    stand.2 before is
-    ∙ ap (λ bytes. Some (before ++ bytes))
-    (sym (stand.1 ∙ ap (λ rest. stand.0 ++ outcomes_text line place rest) (drop_all i outcomes past) ∙ append-nil stand.0))
+-- all replies were added once none is left
+pub stand_before-end : (outcomes : List Outcome) (i line place : ℕ) (IsAdded : List ℕ → Type 0)
+    → length outcomes ≤ i → StandBefore outcomes i line place IsAdded → IsAdded (outcomes_text 1 0 outcomes)
+stand_before-end outcomes i line place IsAdded past stand =
+    subst IsAdded
+    (sym (stand.1 ∙ ap (λ rest. stand.0 ++ outcomes_text line place rest) (drop_all i outcomes past) ∙ append-nil stand.0)) stand.2
 
--- a text behind another one that was given
-pub gives-then : {T E : Type 0} (given given' given'' : Option (List ℕ)) (first rest : List ℕ) (result : Result T E)
-    → ((before : List ℕ) → given ≡ Some before → given' ≡ Some (before ++ first)) → GivesTo given' given'' rest result → GivesTo given given'' (first ++ rest) result
-gives-then given given' given'' first rest (Ok value) was gives = λ before is.
-    gives (before ++ first) (was before is) ∙ ap (λ bytes. Some bytes) (append_assoc before first rest)
-gives-then given given' given'' first rest (Err error) was gives = λ before is.
-    subst (λ bytes. GivesFront before bytes given'') (ap (λ bytes. first ++ bytes) (append-nil rest))
-    (gives_front-within before first rest [] given'' (gives (before ++ first) (was before is)))
-
--- a text whose first part failed
-pub gives-not : (given given' : Option (List ℕ)) (first rest : List ℕ)
-    → ((before : List ℕ) → given ≡ Some before → GivesFront before first given') → (before : List ℕ) → given ≡ Some before → GivesFront before (first ++ rest) given'
-gives-not given given' first rest front before is =
-    gives_front-within before [] first rest given' (subst (λ bytes. GivesFront bytes first given') (sym (append-nil before)) (front before is))
-
--- runs of which some stand at a sink, and with those that are left they are all
-abbrev pub RunsStand : List (ℕ × ℕ) → ℕ → Option (List ℕ) → Option (List ℕ) → Type 0
-RunsStand runs i first now =
-    (done : List ℕ)
-    × (more_runs_text runs ≡ done ++ more_runs_text (drop i runs))
-    × ((before : List ℕ) → first ≡ Some before → now ≡ Some (before ++ done))
+-- runs of which some were added, and with those that are left they are all
+abbrev pub RunsStand : List (ℕ × ℕ) → ℕ → (List ℕ → Type 0) → Type 0
+RunsStand runs i IsAdded = (done : List ℕ) × (more_runs_text runs ≡ done ++ more_runs_text (drop i runs)) × IsAdded done
 
 -- the runs from an index on: the one there, and the rest
 pub more_runs-next : (runs : List (ℕ × ℕ)) (i : ℕ) (d : ℕ × ℕ) → i < length runs
     → more_runs_text (drop i runs) ≡ (codes "," ++ run_text (get_or runs i d)) ++ more_runs_text (drop (i + 1) runs)
 more_runs-next runs i d here = ap more_runs_text (drop_more runs i d here)
 
--- one run more was given
-pub runs_stand-next : (runs : List (ℕ × ℕ)) (i : ℕ) (d : ℕ × ℕ) (first old new : Option (List ℕ)) → i < length runs → RunsStand runs i first old
-    → ((before : List ℕ) → old ≡ Some before → new ≡ Some (before ++ (codes "," ++ run_text (get_or runs i d)))) → RunsStand runs (i + 1) first new
-runs_stand-next runs i d first old new here stand gives =
+-- one run more was added
+pub runs_stand-next : (runs : List (ℕ × ℕ)) (i : ℕ) (d : ℕ × ℕ) (first old new : Option (List ℕ)) (first' old' new' : TextBuffer) → i < length runs
+    → RunsStand runs i (HasAdded first first' old old') → HasAdded old old' new new' (codes "," ++ run_text (get_or runs i d))
+    → RunsStand runs (i + 1) (HasAdded first first' new new')
+runs_stand-next runs i d first old new first' old' new' here stand adds =
     let more = codes "," ++ run_text (get_or runs i d) in (
       stand.0 ++ more,
       stand.1 ∙ ap (λ bytes. stand.0 ++ bytes) (more_runs-next runs i d here) ∙ sym (append_assoc stand.0 more _),
-      (λ before told. gives (before ++ stand.0) (stand.2 before told) ∙ ap (λ bytes. Some bytes) (append_assoc before stand.0 more)),
+      added-then first old new first' old' new' stand.0 more stand.2 adds,
     )
 
--- all runs stand there once none is left
-pub runs_stand-end : (runs : List (ℕ × ℕ)) (i : ℕ) (first now : Option (List ℕ)) → length runs ≤ i → RunsStand runs i first now
-    → (before : List ℕ) → first ≡ Some before → now ≡ Some (before ++ more_runs_text runs)
-runs_stand-end runs i first now past stand before is =
-    stand.2 before is
-    ∙ ap (λ bytes. Some (before ++ bytes)) (sym (stand.1 ∙ ap (λ rest. stand.0 ++ more_runs_text rest) (drop_all i runs past) ∙ append-nil stand.0))
+-- all runs were added once none is left
+pub runs_stand-end : (runs : List (ℕ × ℕ)) (i : ℕ) (IsAdded : List ℕ → Type 0) → length runs ≤ i → RunsStand runs i IsAdded → IsAdded (more_runs_text runs)
+runs_stand-end runs i IsAdded past stand =
+    subst IsAdded (sym (stand.1 ∙ ap (λ rest. stand.0 ++ more_runs_text rest) (drop_all i runs past) ∙ append-nil stand.0)) stand.2

@@ -13,7 +13,7 @@ use Rattle.era_model.specs.Commands.{events_of}
 use Rattle.era_model.specs.Events.{same_id, drawn_by}
 use Rattle.era_model.specs.History.{at_opening, next_place}
 use Rattle.era_model.specs.SessionRun.{AreAllDrawnBy, is_among}
-use Rattle.era_plan.specs.declared.task.Task.{Task}
+use Rattle.era_model.specs.declared.command.Task.{Task}
 use Rattle.era_top.specs.declared.outcome.Outcome.{Outcome}
 use Rattle.era_top.specs.Outcomes.{era_after, era_after_all, event_count, outcome_events}
 use Rattle.era_top.specs.Runs.{lane_zero, commands_from, subject_of, FitsTask, AreAnswered}

@@ -2,6 +2,7 @@ pub mod Gives
 pub mod Splices
 pub mod ReplyParts
 pub mod Journals
+pub mod TaskCommands
 pub mod MarkSteps
 pub mod StreamSteps
 pub mod WriteMarks

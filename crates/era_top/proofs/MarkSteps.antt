@@ -4,6 +4,7 @@ use Rattle.std.specs.Prelude.{nat_lt, slice_set, if◌then◌else◌}
 use Rattle.std.proofs.lemmas.Bool.{cases_lt}
 use Rattle.std.proofs.lemmas.Bool.Decides.{eqb_tells}
 use Rattle.std.proofs.lemmas.List.{get_or-replicate, get_or_past, get_or-set_same, get_or-set_other, length-replicate}
+use Rattle.era_base.specs.Flags.{has}
 use Rattle.era_base.specs.declared.geometry.Geometry.{Geometry}
 use Rattle.era_base.specs.declared.ids.CmdId.{CmdId}
 use Rattle.era_base.specs.Geometry.{blocks_of}
@@ -12,7 +13,7 @@ use Rattle.era_model.specs.declared.history.Happening.{Happening}
 use Rattle.era_model.specs.declared.history.Happening.TheVariants.{Happened}
 use Rattle.era_model.specs.MarkLaws.{LastsAreBounded, MarkGivesEra, SwitchKeepsMarks}
 use Rattle.era_model.specs.Marking.{is_marked_in, journal_last_era}
-use Rattle.era_model.specs.Marks.{ArchivedSet, BlockMarks, blocks_of_marks, entry_of, has, marks_last_era, no_marks, rolled, with_block, with_oldest_merged}
+use Rattle.era_model.specs.Marks.{ArchivedSet, BlockMarks, blocks_of_marks, entry_of, marks_last_era, no_marks, rolled, with_block, with_oldest_merged}
 use Rattle.era_top.specs.Runs.{FollowJournal}
 use Rattle.era_top.proofs.Journals.{same_number, other_number}
 

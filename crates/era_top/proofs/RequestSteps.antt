@@ -13,7 +13,7 @@ use Rattle.era_model.specs.declared.event.Kind.TheVariants.{List as ListKind}
 use Rattle.era_model.specs.declared.event.Why.TheVariants.{Memory}
 use Rattle.era_model.specs.declared.history.Happening.{Happening}
 use Rattle.era_model.specs.declared.history.Happening.TheVariants.{Happened}
-use Rattle.era_model.specs.Commands.{Ask as AskModel, ListSince as ListModel, events_of, answer_of}
+use Rattle.era_model.specs.Commands.{events_of, answer_of}
 use Rattle.era_model.specs.Conditions.{ListsExactly}
 use Rattle.era_model.specs.Counts.{FaultyDisk, CountsAreWithin, last_count}
 use Rattle.era_model.specs.Events.{drawn_by, is_go_of}
@@ -24,11 +24,10 @@ use Rattle.era_model.specs.Marking.{is_marked_in, journal_last_era}
 use Rattle.era_model.specs.Marks.{BlockMarks, blocks_of_marks, marks_last_era, rolled, written_since}
 use Rattle.era_model.specs.MarkLaws.{SwitchKeepsMarks}
 use Rattle.era_model.specs.StreamLists.{era_behind, IsListAnswer, IsWrittenSince, ListsNameWritten, NamesWritten}
-use Rattle.era_plan.specs.declared.task.Request.{Request}
-use Rattle.era_plan.specs.declared.task.Request.TheVariants.{Checkpoint, ListSince}
-use Rattle.era_plan.specs.declared.task.Task.{Task}
-use Rattle.era_plan.specs.declared.task.Task.TheVariants.{Ask}
-use Rattle.era_plan.specs.ModelRounds.{model_request}
+use Rattle.era_model.specs.declared.command.Request.{Request}
+use Rattle.era_model.specs.declared.command.Request.TheVariants.{Checkpoint, List as ListRequest}
+use Rattle.era_model.specs.declared.command.Task.{Task}
+use Rattle.era_model.specs.declared.command.Task.TheVariants.{Ask}
 use Rattle.era_top.specs.declared.outcome.Outcome.{Outcome}
 use Rattle.era_top.specs.declared.outcome.Outcome.TheVariants.{Moved, Listed, NoMemory}
 use Rattle.era_top.specs.Outcomes.{era_after, era_after_all, event_count, is_cut_outcome, outcome_events}
@@ -64,7 +63,7 @@ pub running-answered : (g : Geometry) (contents : List ℕ) (tasks : List Task) 
     → FollowJournal g marks' (era_after (era_after_all 1 outcomes) outcome) (Happened event ∷ h)
     → era_after (era_after_all 1 outcomes) outcome ≡ era_behind (commands_from 0 tasks ++ command_of (length tasks) (Ask request) ∷ [])
     → era_after_all 1 outcomes ≤ era_after (era_after_all 1 outcomes) outcome
-    → ((since : ℕ) → AskModel (model_request request) ≡ AskModel (ListModel since false)
+    → ((since : ℕ) → Ask request ≡ Ask (ListRequest since false)
     → IsListAnswer g (commands_from 0 tasks) since (answer_of (outcome_events (subject_of g (length tasks) (era_after_all 1 outcomes) (Ask request)) (next_place h) outcome)))
     → Running g contents (tasks ++ Ask request ∷ []) (outcomes ++ outcome ∷ []) marks' tells faults faults' disk disk' (Happened event ∷ h)
 running-answered g contents tasks outcomes marks marks' tells faults faults' disk disk' h request outcome event run is follow behind later names =
@@ -209,12 +208,12 @@ list-legal g contents marks era since h blocks opened follow lists = record {
 -- a list named its blocks
 pub running-listed : (g : Geometry) (contents : List ℕ) (tasks : List Task) (outcomes : List Outcome) (marks : BlockMarks) (tells : Bool) (faults faults' : ℕ) (disk disk' : State) (h : List Happening) (since : ℕ) (blocks : List (ℕ × ℕ))
     → Running g contents tasks outcomes marks tells faults faults' disk disk' h → ListsExactly (blocks_of_marks marks) (written_since marks since) blocks
-    → Running g contents (tasks ++ Ask (ListSince since) ∷ []) (outcomes ++ Listed blocks ∷ []) marks tells faults faults' disk disk' (Happened (ListEvent (lane_zero (length tasks)) since false blocks) ∷ h)
+    → Running g contents (tasks ++ Ask (ListRequest since false) ∷ []) (outcomes ++ Listed blocks ∷ []) marks tells faults faults' disk disk' (Happened (ListEvent (lane_zero (length tasks)) since false blocks) ∷ h)
 running-listed g contents tasks outcomes marks tells faults faults' disk disk' h since blocks run lists =
     let n = length tasks in
     let present = era_after_all 1 outcomes in
     let event = ListEvent (lane_zero n) since false blocks in
-    running-answered g contents tasks outcomes marks marks tells faults faults' disk disk' h (ListSince since) (Listed blocks) event run
+    running-answered g contents tasks outcomes marks marks tells faults faults' disk disk' h (ListRequest since false) (Listed blocks) event run
     (record {
       drawn = refl;
       no_go = λ m. refl;
@@ -231,7 +230,7 @@ running-listed g contents tasks outcomes marks tells faults faults' disk disk' h
       present = run.journal.era;
     })
     (follow-event g marks present h (Happened event ∷ h) run.between.follow (λ block e. refl) (λ block. refl))
-    (run.between.stream.stream_era ∙ sym (era_behind-same (commands_from 0 tasks) (command_of n (Ask (ListSince since))) refl))
+    (run.between.stream.stream_era ∙ sym (era_behind-same (commands_from 0 tasks) (command_of n (Ask (ListRequest since false))) refl))
     (omega arith)
     (λ asked asks. let same : since ≡ asked = cc in
     subst (λ e. NamesWritten g (commands_from 0 tasks) e blocks) same (list-names g tasks marks present h since blocks run.between.follow run.between.stream lists))
@@ -239,12 +238,12 @@ running-listed g contents tasks outcomes marks tells faults faults' disk disk' h
 -- memory for a list was refused, or the era was the last one
 pub running-lacked : (g : Geometry) (contents : List ℕ) (tasks : List Task) (outcomes : List Outcome) (marks : BlockMarks) (tells : Bool) (faults faults' : ℕ) (disk disk' : State) (h : List Happening) (since : ℕ)
     → Running g contents tasks outcomes marks tells faults faults' disk disk' h
-    → Running g contents (tasks ++ Ask (ListSince since) ∷ []) (outcomes ++ NoMemory ∷ []) marks tells faults faults' disk disk' (Happened (Refused (lane_zero (length tasks)) ListKind Memory) ∷ h)
+    → Running g contents (tasks ++ Ask (ListRequest since false) ∷ []) (outcomes ++ NoMemory ∷ []) marks tells faults faults' disk disk' (Happened (Refused (lane_zero (length tasks)) ListKind Memory) ∷ h)
 running-lacked g contents tasks outcomes marks tells faults faults' disk disk' h since run =
     let n = length tasks in
     let present = era_after_all 1 outcomes in
     let event = Refused (lane_zero n) ListKind Memory in
-    running-answered g contents tasks outcomes marks marks tells faults faults' disk disk' h (ListSince since) NoMemory event run
+    running-answered g contents tasks outcomes marks marks tells faults faults' disk disk' h (ListRequest since false) NoMemory event run
     (record {
       drawn = refl;
       no_go = λ m. refl;
@@ -261,6 +260,6 @@ running-lacked g contents tasks outcomes marks tells faults faults' disk disk' h
       present = run.journal.era;
     })
     (follow-event g marks present h (Happened event ∷ h) run.between.follow (λ block e. refl) (λ block. refl))
-    (run.between.stream.stream_era ∙ sym (era_behind-same (commands_from 0 tasks) (command_of n (Ask (ListSince since))) refl))
+    (run.between.stream.stream_era ∙ sym (era_behind-same (commands_from 0 tasks) (command_of n (Ask (ListRequest since false))) refl))
     (omega arith)
     (λ asked asks. tt)

@@ -13,15 +13,13 @@ use Rattle.era_model.specs.History.{at_opening}
 use Rattle.era_model.specs.Journal.{session_opening}
 use Rattle.era_model.specs.SessionRun.{AreListEvents, AreTaskEvents, HaveTheirEvents, place_now, without_places}
 use Rattle.era_model.specs.Transcript.{reply_line, replies_text}
-use Rattle.era_plan.specs.declared.task.Request.TheVariants.{Checkpoint, ListSince}
-use Rattle.era_plan.specs.declared.task.Task.{Task}
-use Rattle.era_plan.specs.declared.task.Task.TheVariants.{Write as WriteTask, Ask}
-use Rattle.era_plan.specs.declared.task.Write.{Write}
-use Rattle.era_plan.specs.ModelRounds.{model_task}
+use Rattle.era_model.specs.declared.command.Request.TheVariants.{Checkpoint, List as ListRequest}
+use Rattle.era_model.specs.declared.command.Task.{Task}
+use Rattle.era_model.specs.declared.command.Task.TheVariants.{Write as WriteTask, Ask}
 use Rattle.era_top.specs.declared.outcome.Outcome.{Outcome}
 use Rattle.era_top.specs.declared.outcome.Outcome.TheVariants.{OutOfRange, Done, Cut, Moved, LastEra, Listed, NoMemory}
 use Rattle.era_top.specs.Outcomes.{EventSubject, era_after, event_count, ended_events, is_issued, lacks_memory, outcome_events, outcome_line, outcomes_text}
-use Rattle.era_top.specs.Runs.{lane_zero, command_of, commands_from, place_of_write, some_lack, subject_of, subject_of_write, FitsList, FitsPlace, FitsTask, AreAnswered}
+use Rattle.era_top.specs.Runs.{lane_zero, command_of, commands_from, place_of_write, some_lack, subject_of, subject_of_write, FitsList, FitsPlace, FitsTask, AreAnswered, Write}
 use Rattle.era_top.specs.Answered.{says_memory, some_says_memory, EndInFault}
 use Rattle.era_top.proofs.Journals.{at_opening-known}
 
@@ -136,7 +134,7 @@ checkpoint-events g h number era start outcome (inl moved) =
 checkpoint-events g h number era start outcome (inr last) =
     rw last (record { before = []; resolutions = tt; rest = _; outcome = inr (inr (inr (inl refl))); joined = refl })
 
-list-events : (g : Geometry) (number era start since : ℕ) (outcome : Outcome) → FitsList outcome → AreListEvents (lane_zero number) since false (without_places (outcome_events (subject_of g number era (Ask (ListSince since))) start outcome))
+list-events : (g : Geometry) (number era start since : ℕ) (outcome : Outcome) → FitsList outcome → AreListEvents (lane_zero number) since false (without_places (outcome_events (subject_of g number era (Ask (ListRequest since false))) start outcome))
 list-events g number era start since OutOfRange fits = absurd fits
 list-events g number era start since (Done marks) fits = absurd fits
 list-events g number era start since (Cut marks faults) fits = absurd fits
@@ -147,21 +145,23 @@ list-events g number era start since NoMemory fits = inr (inr (inl refl))
 
 -- a command that has the events of its outcome has events that it may have
 task-events : (g : Geometry) (contents : List ℕ) (h : List Happening) (number era start : ℕ) (task : Task) (outcome : Outcome) → at_opening None (λ opening. Some opening) h ≡ Some (session_opening g contents) → FitsTask g era task outcome
-    → AreTaskEvents h (lane_zero number) (model_task task) (without_places (outcome_events (subject_of g number era task) start outcome))
-task-events g contents h number era start (WriteTask write) outcome opened fits =
+    → AreTaskEvents h (lane_zero number) task (without_places (outcome_events (subject_of g number era task) start outcome))
+task-events g contents h number era start (WriteTask sector bytes) outcome opened fits =
+    let write : Write = record { sector = sector; bytes = bytes } in
     let placed : place_now h write.sector (length write.bytes / 512) ≡ place_of_write g write
     = at_opening-known None (λ opening. place_at opening.geometry.sectors opening.geometry.block_sectors write.sector (length write.bytes / 512)) (session_opening g contents) h opened in
     subst (λ place. AreWriteEvents h (lane_zero number) write.bytes place (without_places (outcome_events (subject_of_write number era write (place_of_write g write)) start outcome))) (sym placed)
     (events-placed h number era start write (place_of_write g write) outcome fits)
 task-events g contents h number era start (Ask Checkpoint) outcome opened fits = checkpoint-events g h number era start outcome fits
-task-events g contents h number era start (Ask (ListSince since)) outcome opened fits = list-events g number era start since outcome fits
+task-events g contents h number era start (Ask (ListRequest since false)) outcome opened fits = list-events g number era start since outcome fits
+task-events g contents h number era start task outcome opened fits = absurd fits
 
 -- each of the commands that have the events of their outcomes has events that it may have
 pub answered-events : (g : Geometry) (contents : List ℕ) (h : List Happening) (number era start : ℕ) (tasks : List Task) (outcomes : List Outcome) (next : ℕ) → at_opening None (λ opening. Some opening) h ≡ Some (session_opening g contents) → AreAnswered g h number era start tasks outcomes next → HaveTheirEvents h (commands_from number tasks)
 answered-events g contents h number era start [] outcomes next opened answered = tt
 answered-events g contents h number era start (task ∷ tasks) [] next opened answered = absurd answered
 answered-events g contents h number era start (task ∷ tasks) (outcome ∷ outcomes) next opened answered = (
-  subst (λ events. AreTaskEvents h (lane_zero number) (model_task task) (without_places events)) (sym answered.1)
+  subst (λ events. AreTaskEvents h (lane_zero number) task (without_places events)) (sym answered.1)
       (task-events g contents h number era start task outcome opened answered.0),
   answered-events g contents h (number + 1) (era_after era outcome) (start + event_count outcome) tasks outcomes next opened answered.2,
 )

@@ -14,14 +14,11 @@ use Rattle.era_model.specs.Journal.{session_opening}
 use Rattle.era_model.specs.Marks.{BlockMarks, no_marks}
 use Rattle.era_model.specs.StreamLists.{block_written, IsWrittenSince, ListsNameWritten}
 use Rattle.era_model.specs.Writes.{block_bytes}
-use Rattle.era_plan.specs.declared.task.Task.{Task}
-use Rattle.era_plan.specs.declared.task.Task.TheVariants.{Write as WriteTask}
-use Rattle.era_plan.specs.declared.task.Write.{Write}
-use Rattle.era_plan.specs.ModelRounds.{model_task}
+use Rattle.era_model.specs.declared.command.Task.{Task}
 use Rattle.era_top.specs.declared.outcome.Outcome.{Outcome}
 use Rattle.era_top.specs.declared.outcome.Outcome.TheVariants.{OutOfRange}
 use Rattle.era_top.specs.Outcomes.{era_after_all, is_cut_outcome}
-use Rattle.era_top.specs.Runs.{command_of, commands_from, lane_zero, place_of_write, some_cut, FollowJournal, IsJournalOf, IsBetween, MarksWritten}
+use Rattle.era_top.specs.Runs.{command_of, commands_from, lane_zero, place_of_write, some_cut, task_of_write, FollowJournal, IsJournalOf, IsBetween, MarksWritten, Write}
 use Rattle.era_top.proofs.Journals.{answered-push, drawn-more, era_after_all-push}
 use Rattle.era_top.proofs.RunOrder.{no_marks-valid, opening-legal}
 use Rattle.era_top.proofs.MarkSteps.{no_marks-last, none-has}
@@ -97,12 +94,12 @@ running-none g contents marks tells faults disk none = rw none (record {
 -- a write out of range changes nothing
 pub running-range : (g : Geometry) (contents : List ℕ) (tasks : List Task) (outcomes : List Outcome) (marks : BlockMarks) (tells : Bool) (faults faults' : ℕ) (disk disk' : State) (h : List Happening) (write : Write)
     → Running g contents tasks outcomes marks tells faults faults' disk disk' h → place_of_write g write ≡ None
-    → Running g contents (tasks ++ WriteTask write ∷ []) (outcomes ++ OutOfRange ∷ []) marks tells faults faults' disk disk' h
+    → Running g contents (tasks ++ task_of_write write ∷ []) (outcomes ++ OutOfRange ∷ []) marks tells faults faults' disk disk' h
 running-range g contents tasks outcomes marks tells faults faults' disk disk' h write run none =
     let n = length tasks in
-    let task = WriteTask write in
+    let task = task_of_write write in
     let fresh = (run.between.fresh n (omega arith)).no_event in
-    let writes_none : block_written g (model_task task) ≡ None = ap (λ place. option_map (λ p. p.0) place) none in
+    let writes_none : block_written g task ≡ None = ap (λ place. option_map (λ p. p.0) place) none in
     let era_same : era_after_all 1 (outcomes ++ OutOfRange ∷ []) ≡ era_after_all 1 outcomes = era_after_all-push 1 outcomes OutOfRange in
     let more = commands-more tasks task in
     record {

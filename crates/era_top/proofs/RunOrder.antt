@@ -1,5 +1,5 @@
 -- The order of a run's commands, and that its journal is a run; the opening of a first session is legal.
-use Rattle.std.proofs.Common.{◌≡◌, ℕ, ◌+◌, ◌<◌, ◌≤◌, Bool, true, false, List, [], ◌∷◌, ◌++◌, replicate, slice_index_or, All, refl, sym, subst, append-nil, suc, zero, arith}
+use Rattle.std.proofs.Common.{◌≡◌, ℕ, ◌+◌, ◌<◌, ◌≤◌, Bool, true, false, List, [], ◌∷◌, ◌++◌, replicate, slice_index_or, All, refl, sym, ◌∙◌, subst, append-nil, suc, zero, arith}
 use Rattle.std.proofs.lemmas.List.{length-replicate}
 use Rattle.std.proofs.lemmas.List.Elements.{All-nil, All-cons, All-same}
 use Rattle.era_base.specs.declared.geometry.Geometry.{Geometry}
@@ -7,14 +7,15 @@ use Rattle.era_model.specs.declared.event.Event.{Event}
 use Rattle.era_model.specs.declared.event.Event.TheVariants.{Tried, Mark, Go}
 use Rattle.era_model.specs.declared.history.Happening.{Happening}
 use Rattle.era_model.specs.declared.history.Happening.TheVariants.{Opened}
-use Rattle.era_model.specs.Commands.{Command, events_of}
+use Rattle.era_model.specs.declared.command.Command.{Command}
+use Rattle.era_model.specs.Commands.{events_of, one_round}
 use Rattle.era_model.specs.Journal.{session_opening}
 use Rattle.era_model.specs.Legal.{IsLegal}
 use Rattle.era_model.specs.Marks.{no_marks}
 use Rattle.era_model.specs.SessionRun.{AreAllDrawnBy, HaveTheirEvents, AllBefore, IsBefore, StandsBefore, KeepsLanes, IsRun}
 use Rattle.era_model.specs.Transcript.{replies_text}
 use Rattle.era_model.specs.Validity.{AreValidMarks}
-use Rattle.era_plan.specs.declared.task.Task.{Task}
+use Rattle.era_model.specs.declared.command.Task.{Task}
 use Rattle.era_top.specs.declared.outcome.Outcome.{Outcome}
 use Rattle.era_top.specs.declared.outcome.Outcome.TheVariants.{OutOfRange, Done, Cut, Moved, LastEra, Listed, NoMemory}
 use Rattle.era_top.specs.Outcomes.{EventSubject, era_after, event_count, ended_events, outcome_events, outcomes_text}
@@ -99,13 +100,15 @@ answered-lanes g h number era start (task ∷ tasks) (outcome ∷ outcomes) next
 )
 
 -- the journal of commands that were run is a run of them, all of one round
-pub journal-run : (g : Geometry) (contents : List ℕ) (tasks : List Task) (outcomes : List Outcome) (h : List Happening) → IsJournalOf g contents tasks outcomes h → IsRun h (commands_from 0 tasks ∷ [])
+pub journal-run : (g : Geometry) (contents : List ℕ) (tasks : List Task) (outcomes : List Outcome) (h : List Happening) → IsJournalOf g contents tasks outcomes h → IsRun h (one_round (commands_from 0 tasks))
 journal-run g contents tasks outcomes h journal =
-    let one : commands_from 0 tasks ++ [] ≡ commands_from 0 tasks = append-nil (commands_from 0 tasks) in
+    let commands = commands_from 0 tasks in
+    let one : commands ++ [] ++ [] ≡ commands = append-nil (commands ++ []) ∙ append-nil commands in
     record {
       drawn = subst (λ commands. AreAllDrawnBy commands h) (sym one) journal.drawn;
       events = subst (λ commands. HaveTheirEvents h commands) (sym one) (answered-events g contents h 0 1 0 tasks outcomes (next_place h) journal.opened journal.answered);
       lanes = subst (λ commands. KeepsLanes h commands) (sym one) (answered-lanes g h 0 1 0 tasks outcomes (next_place h) journal.answered);
+      borders = (tt, tt);
     }
 
 -- the replies of the journal of commands that were run are those of their outcomes

@@ -11,14 +11,12 @@ use Rattle.era_model.specs.declared.history.Happening.{Happening}
 use Rattle.era_model.specs.History.{in_flight, next_place}
 use Rattle.era_model.specs.Marks.{BlockMarks, with_block}
 use Rattle.era_model.specs.Writes.{block_bytes, is_written_at}
-use Rattle.era_plan.specs.declared.task.Task.{Task}
-use Rattle.era_plan.specs.declared.task.Task.TheVariants.{Write as WriteTask}
-use Rattle.era_plan.specs.declared.task.Write.{Write}
+use Rattle.era_model.specs.declared.command.Task.{Task}
 use Rattle.era_top.specs.declared.outcome.Outcome.{Outcome}
 use Rattle.era_top.specs.declared.outcome.Outcome.TheVariants.{Done, Cut}
 use Rattle.era_top.specs.Outcomes.{era_after_all}
-use Rattle.era_top.specs.Runs.{lane_zero, some_cut, IsJournalOf, IsBetween}
-use Rattle.era_top.specs.Steps.{Marks, IsStored, IsTorn, TellsFault, HaveRun}
+use Rattle.era_top.specs.Runs.{lane_zero, some_cut, task_of_write, IsJournalOf, IsBetween, Write}
+use Rattle.era_top.specs.Steps.{Marks, HoldsWrite, IsTorn, TellsFault, HaveRun}
 use Rattle.era_top.proofs.Journals.{same_command, era_after_all-push}
 use Rattle.era_top.proofs.WriteMarks.{Issue, IsReady, ready-marked, ready-unmarked}
 use Rattle.era_top.proofs.WriteSteps.{IsIssued, ended_with, done-journal, done-between, done-content, cut-journal, cut-counts}
@@ -72,8 +70,8 @@ issued-facts g contents tasks outcomes marks marks' h journal write first was ma
 -- one write more was acknowledged
 pub running-done : (g : Geometry) (contents : List ℕ) (tasks : List Task) (outcomes : List Outcome) (marks marks' : BlockMarks) (tells : Bool) (faults faults' : ℕ) (disk disk' disk'' : State) (h : List Happening) (write : Write) (first : Bool)
     → Running g contents tasks outcomes marks tells faults faults' disk disk' h → Marks g write marks marks' first → length write.bytes % 512 ≡ 0
-    → (tells ≡ true → length disk'.seen ≡ g.sectors * 512) → (tells ≡ true → IsStored write disk' disk'')
-    → (h' : List Happening) × Running g contents (tasks ++ WriteTask write ∷ []) (outcomes ++ Done first ∷ []) marks' tells faults faults' disk disk'' h'
+    → (tells ≡ true → length disk'.seen ≡ g.sectors * 512) → (tells ≡ true → HoldsWrite write disk' disk'')
+    → (h' : List Happening) × Running g contents (tasks ++ task_of_write write ∷ []) (outcomes ++ Done first ∷ []) marks' tells faults faults' disk disk'' h'
 running-done g contents tasks outcomes marks marks' tells faults faults' disk disk' disk'' h write first run marked whole sized stored =
     let place = marked.place in
     let era = era_after_all 1 outcomes in
@@ -84,10 +82,10 @@ running-done g contents tasks outcomes marks marks' tells faults faults' disk di
       ended_with n issue (DoneEvent (lane_zero n)) made.0,
       record {
         journal = done-journal g contents tasks outcomes issue (with_block marks place.0) h made.0 issued;
-        between = subst (λ m. IsBetween g (tasks ++ WriteTask write ∷ []) m (era_after_all 1 (outcomes ++ Done first ∷ [])) (ended_with n issue (DoneEvent (lane_zero n)) made.0)) (sym marked.now)
-            (subst (λ e. IsBetween g (tasks ++ WriteTask write ∷ []) (with_block marks place.0) e (ended_with n issue (DoneEvent (lane_zero n)) made.0)) (sym (era_after_all-push 1 outcomes (Done first)))
+        between = subst (λ m. IsBetween g (tasks ++ task_of_write write ∷ []) m (era_after_all 1 (outcomes ++ Done first ∷ [])) (ended_with n issue (DoneEvent (lane_zero n)) made.0)) (sym marked.now)
+            (subst (λ e. IsBetween g (tasks ++ task_of_write write ∷ []) (with_block marks place.0) e (ended_with n issue (DoneEvent (lane_zero n)) made.0)) (sym (era_after_all-push 1 outcomes (Done first)))
             (done-between g contents tasks outcomes issue (with_block marks place.0) h made.0 issued run.between.stream));
-        count = length_push outcomes (Done first) ∙ ap (λ k. k + 1) run.count ∙ sym (length_push tasks (WriteTask write));
+        count = length_push outcomes (Done first) ∙ ap (λ k. k + 1) run.count ∙ sym (length_push tasks (task_of_write write));
         no_cut = some_cut-push outcomes (Done first) run.no_cut;
         kept = run.kept;
         reads = λ told is block within.
@@ -106,7 +104,7 @@ some_cut-last outcomes first faults none last = absurd (let e : some_cut (outcom
 pub running-cut : (g : Geometry) (contents : List ℕ) (all tasks : List Task) (outcomes : List Outcome) (marks marks' : BlockMarks) (tells : Bool) (faults faults' faults'' told : ℕ) (disk disk' disk'' : State) (h : List Happening) (write : Write) (first : Bool)
     → Running g contents tasks outcomes marks tells faults faults' disk disk' h → Marks g write marks marks' first → length write.bytes % 512 ≡ 0
     → TellsFault faults' faults'' told → (tells ≡ true → IsTorn write disk' disk'')
-    → take (length tasks + 1) all ≡ tasks ++ WriteTask write ∷ [] → length tasks < length all
+    → take (length tasks + 1) all ≡ tasks ++ task_of_write write ∷ [] → length tasks < length all
     → (h' : List Happening) × HaveRun g contents all (outcomes ++ Cut first told ∷ []) tells marks'.era faults faults'' disk disk'' h'
 running-cut g contents all tasks outcomes marks marks' tells faults faults' faults'' told disk disk' disk'' h write first run marked whole fault torn front within =
     let place = marked.place in

@@ -1,7 +1,7 @@
 -- How a session went, from the run of its writes and the lines that were given.
 use Rattle.std.proofs.Common.{◌≡◌, ℕ, ◌+◌, Bool, true, false, List, [], ◌∷◌, ◌++◌, length, get_or, take, Option, Some, None, refl, ap, sym, ◌∙◌, subst, arith, inl, inr, append_assoc}
 use Rattle.std.specs.Prelude.{if◌then◌else◌}
-use Rattle.std.proofs.lemmas.List.{take_all, append-nil}
+use Rattle.std.proofs.lemmas.List.{append-nil, length-map, take_all}
 use Rattle.std.proofs.lemmas.List.Sums.{sum_by-cons}
 use Rattle.era_base.specs.declared.geometry.Geometry.{Geometry}
 use Rattle.era_base.specs.Faults.{Rose}
@@ -13,27 +13,24 @@ use Rattle.era_model.specs.Journal.{session_opening}
 use Rattle.era_model.specs.Transcript.{Stop, ReadToEnd, SourceFault, open_line, stop_line, end_line, replies_text}
 use Rattle.era_model.specs.Writes.{block_bytes}
 use Rattle.era_plan.specs.declared.round.PlanError.{PlanError}
-use Rattle.era_plan.specs.declared.task.Task.{Task}
+use Rattle.era_model.specs.declared.command.Command.{Command}
+use Rattle.era_model.specs.declared.command.Task.{Task}
 use Rattle.era_plan.specs.declared.round.PlanError.TheVariants.{Line as LineError, Source as SourceError, Memory as MemoryError}
-use Rattle.era_plan.specs.Rounds.{Refuses, FailsBehind, HasErrorCause}
+use Rattle.era_plan.specs.Rounds.{AreInOrder, Refuses, FailsBehind, HasErrorCause}
 use Rattle.era_top.specs.declared.outcome.Outcome.{Outcome}
 use Rattle.era_top.specs.declared.status.Status.{Status}
 use Rattle.era_top.specs.declared.status.Status.TheVariants.{Done, Fault, Memory, Sink}
 use Rattle.era_top.specs.Outcomes.{era_after, event_count, outcomes_text, total_events}
-use Rattle.era_top.specs.Runs.{commands_from, AreAnswered, IsJournalOf, some_cut, some_lack}
+use Rattle.era_top.specs.Runs.{commands_from, some_cut, some_lack, tasks_of, AreAnswered, IsJournalOf}
 use Rattle.era_top.specs.Answered.{some_says_memory, EndInFault}
 use Rattle.era_top.specs.Sessions.{Session, Around, IsSession, IsReadWhole, HasReadAll, HasDoneAll, HasRunNothing, EndsBy, Prints, Goes, GoesOn, session_text, text_behind_open, stop_of, status_of, round_status}
 use Rattle.era_top.specs.Steps.{HaveRun}
-use Rattle.era_top.proofs.Gives.{gives_front-within}
+use Rattle.era_top.proofs.Gives.{gives_front-within, gives_front-longer}
 use Rattle.era_top.proofs.Journals.{at_opening-known}
 use Rattle.era_top.proofs.RunLaws.{answered-fault, answered-lack}
 use Rattle.era_top.proofs.RunOrder.{journal-run, journal-replies, opening-legal}
 use Rattle.era_top.proofs.StreamSteps.{never-empty}
-
--- a front of the first part is a front of all
-gives_front-first : (before piece rest : List ℕ) (after : Option (List ℕ)) → GivesFront before piece after → GivesFront before (piece ++ rest) after
-gives_front-first before piece rest after front =
-    gives_front-within before [] piece rest after (subst (λ bytes. GivesFront bytes piece after) (sym (append-nil before)) front)
+use Rattle.era_top.proofs.TaskCommands.{commands_from-take, commands_from-tasks}
 
 -- a text that was given behind another one
 pub prints-behind : (given given' given'' : Option (List ℕ)) (first rest : List ℕ) (ended result : Status)
@@ -51,7 +48,7 @@ prints-behind given given' given'' first rest ended result was printed = elim pr
 -- a text of which the first part was refused
 pub prints-first : (given given' : Option (List ℕ)) (first rest : List ℕ) (ended : Status)
     → ((before : List ℕ) → given ≡ Some before → GivesFront before first given') → Prints given given' (first ++ rest) ended Sink
-prints-first given given' first rest ended front = inr (refl, (λ before is. gives_front-first before first rest given' (front before is)))
+prints-first given given' first rest ended front = inr (refl, (λ before is. gives_front-longer before first rest given' (front before is)))
 
 -- the next place is behind all events
 pub answered-total : (g : Geometry) (h : List Happening) (number era start : ℕ) (tasks : List Task) (outcomes : List Outcome) (next : ℕ) → AreAnswered g h number era start tasks outcomes next → next ≡ start + total_events outcomes
@@ -66,7 +63,11 @@ answered-total g h number era start (task ∷ tasks) (outcome ∷ outcomes) next
 pub session-text-is : (g : Geometry) (contents : List ℕ) (session : Session) → at_opening None (λ opening. Some opening) session.journal ≡ Some (session_opening g contents)
     → session_text session ≡ open_line g 1 ++ text_behind_open session
 session-text-is g contents session opened =
-    four (at_opening [] (λ opening. open_line opening.geometry opening.era) session.journal) (replies_text session.journal session.commands) (stop_line session.stop) (end_line (era_of session.journal) (next_place session.journal))
+    let open_text = at_opening [] (λ opening. open_line opening.geometry opening.era) session.journal in
+    let replies = replies_text session.journal session.commands in
+    let last = end_line (era_of session.journal) (next_place session.journal) in
+    ap (λ text. open_text ++ text ++ stop_line session.stop ++ last) (append-nil (replies ++ []) ∙ append-nil replies)
+    ∙ four open_text replies (stop_line session.stop) last
     ∙ ap (λ first. first ++ text_behind_open session) (at_opening-known [] (λ opening. open_line opening.geometry opening.era) (session_opening g contents) session.journal opened)
   where
     four : (a b c d : List ℕ) → a ++ b ++ c ++ d ≡ a ++ (b ++ (c ++ d))
@@ -157,20 +158,21 @@ round-cause g around session outcomes read cut done lack = elim (some_cut outcom
     uncut false lacked all = (all, lacked)
 
 -- the commands of the stream were run, and the replies say how
-pub goes-round : (g : Geometry) (contents : List ℕ) (around : Around) (given given' : Option (List ℕ)) (tasks : List Task) (outcomes : List Outcome) (era : ℕ) (h : List Happening) (result : Status)
-    → HaveRun g contents tasks outcomes around.tells era around.disk_faults around.disk_faults' around.disk around.disk' h
-    → IsReadWhole around.left around.left' around.source_faults around.source_faults' tasks
+pub goes-round : (g : Geometry) (contents : List ℕ) (around : Around) (given given' : Option (List ℕ)) (commands : List Command) (outcomes : List Outcome) (era : ℕ) (h : List Happening) (result : Status)
+    → HaveRun g contents (tasks_of commands) outcomes around.tells era around.disk_faults around.disk_faults' around.disk around.disk' h
+    → IsReadWhole around.left around.left' around.source_faults around.source_faults' commands → AreInOrder 0 commands
     → Prints given given' (outcomes_text 1 0 outcomes ++ (stop_line ReadToEnd ++ end_line era (total_events outcomes))) (round_status outcomes) result
     → GoesOn g contents around given given' result
-goes-round g contents around given given' tasks outcomes era h result run source printed =
-    let front = take (length outcomes) tasks in
+goes-round g contents around given given' commands outcomes era h result run source order printed =
+    let front = take (length outcomes) (tasks_of commands) in
     let session : Session = record { journal = h; commands = commands_from 0 front; stop = ReadToEnd } in
     let total : next_place h ≡ total_events outcomes = answered-total g h 0 1 0 front outcomes (next_place h) run.journal.answered ∙ (omega arith) in
     let read : HasReadAll around session = record {
-      tasks = tasks;
+      spelled = commands;
       answered = length outcomes;
       source = source;
-      commands = refl;
+      commands = commands_from-take (length outcomes) 0 (tasks_of commands)
+          ∙ ap (λ all. take (length outcomes) all) (commands_from-tasks 0 commands order);
       stop = refl;
       whole = λ empty. all-answered empty;
     } in
@@ -191,17 +193,18 @@ goes-round g contents around given given' tasks outcomes era h result run source
       printed = rw (journal-replies g contents front outcomes h run.journal, total, ← run.present) printed;
     }
   where
-    all-answered : in_flight h ≡ [] → take (length outcomes) tasks ≡ tasks
-    all-answered empty = elim (some_cut outcomes) as (λ flag. some_cut outcomes ≡ flag → take (length outcomes) tasks ≡ tasks) [
+    all-answered : in_flight h ≡ [] → take (length outcomes) commands ≡ commands
+    all-answered empty = elim (some_cut outcomes) as (λ flag. some_cut outcomes ≡ flag → take (length outcomes) commands ≡ commands) [
       | true ↦ λ cut. absurd (run.stopped cut empty)
-      | false ↦ λ none. take_all (length outcomes) tasks (let e = run.whole none in omega arith)
+      | false ↦ λ none. take_all (length outcomes) commands
+          (let e = run.whole none in let f = length-map commands (λ (command : Command). command.task) in omega arith)
     ] refl
 
-    ends-in-fault : some_cut outcomes ≡ true → EndInFault h (commands_from 0 (take (length outcomes) tasks)) around.disk_faults'
+    ends-in-fault : some_cut outcomes ≡ true → EndInFault h (commands_from 0 (take (length outcomes) (tasks_of commands))) around.disk_faults'
     ends-in-fault cut =
         let is = run.last cut in
-        answered-fault g h 0 1 0 (take (length outcomes) tasks) is.before is.marks around.disk_faults' (next_place h)
-        (subst (λ went. AreAnswered g h 0 1 0 (take (length outcomes) tasks) went (next_place h)) is.last run.journal.answered)
+        answered-fault g h 0 1 0 (take (length outcomes) (tasks_of commands)) is.before is.marks around.disk_faults' (next_place h)
+        (subst (λ went. AreAnswered g h 0 1 0 (take (length outcomes) (tasks_of commands)) went (next_place h)) is.last run.journal.answered)
 
 -- why a stream gave no round is why its session ended
 pub error-cause : (g : Geometry) (around : Around) (error : PlanError) → HasErrorCause around.source_faults around.source_faults' error → ((text : List ℕ) → around.left ≡ Some text → Refuses text error)

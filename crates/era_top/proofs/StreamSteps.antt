@@ -6,10 +6,13 @@ use Rattle.std.proofs.lemmas.List.Sums.{sum_by-cons, sum_by_push}
 use Rattle.era_base.specs.declared.geometry.Geometry.{Geometry}
 use Rattle.era_base.specs.Geometry.{blocks_of}
 use Rattle.era_model.specs.declared.history.Happening.{Happening}
-use Rattle.era_model.specs.Commands.{Command, Ask, ListSince, events_of, answer_of}
+use Rattle.era_model.specs.declared.command.Command.{Command}
+use Rattle.era_model.specs.declared.command.Request.TheVariants.{List as ListRequest}
+use Rattle.era_model.specs.declared.command.Task.TheVariants.{Ask}
+use Rattle.era_model.specs.Commands.{events_of, answer_of}
 use Rattle.era_model.specs.Marking.{journal_last_era}
 use Rattle.era_model.specs.StreamLists.{block_written, era_behind, is_checkpoint, IsListAnswer, IsWrittenSince, ListsNameWritten}
-use Rattle.era_plan.specs.declared.task.Task.{Task}
+use Rattle.era_model.specs.declared.command.Task.{Task}
 use Rattle.era_top.specs.Runs.{command_of, commands_from, lane_zero, MarksWritten}
 
 -- The last of some commands stands at the split, or the split is among the others.
@@ -172,7 +175,7 @@ command-number number (task ∷ tasks) (first ∷ before) at after e =
 -- lists keep their answers where the events stay, and one command more is answered as it should be
 pub lists-push : (g : Geometry) (tasks : List Task) (last : Command) (h h' : List Happening) → ListsNameWritten g h (commands_from 0 tasks)
     → ((m : ℕ) → m < length tasks → events_of h' (lane_zero m) ≡ events_of h (lane_zero m))
-    → ((since : ℕ) → last.task ≡ Ask (ListSince since false) → IsListAnswer g (commands_from 0 tasks) since (answer_of (events_of h' last.id)))
+    → ((since : ℕ) → last.task ≡ Ask (ListRequest since false) → IsListAnswer g (commands_from 0 tasks) since (answer_of (events_of h' last.id)))
     → ListsNameWritten g h' (commands_from 0 tasks ++ last ∷ [])
 lists-push g tasks last h h' lists kept answered before after at since e asks = go (split-last (commands_from 0 tasks) last before at after e)
   where

@@ -1,6 +1,7 @@
 -- A write that is about to be issued: its block is marked, where it needs a mark.
 use Rattle.std.proofs.Common.{◌≡◌, ℕ, ◌+◌, ◌<◌, Bool, true, false, ◌==◌, List, [], ◌∷◌, ◌++◌, length, Some, None, refl, sym, ◌∙◌, subst, arith}
 use Rattle.std.specs.Prelude.{if◌then◌else◌}
+use Rattle.era_base.specs.Flags.{has}
 use Rattle.era_base.specs.declared.geometry.Geometry.{Geometry}
 use Rattle.era_base.specs.Geometry.{blocks_of}
 use Rattle.era_model.specs.declared.event.Event.{Event}
@@ -15,19 +16,17 @@ use Rattle.era_model.specs.Journal.{session_opening}
 use Rattle.era_model.specs.Legal.{IsLegal}
 use Rattle.era_model.specs.MarkLaws.{LastsAreBounded, MarkGivesEra}
 use Rattle.era_model.specs.Marking.{is_marked_in, journal_last_era, some_event}
-use Rattle.era_model.specs.Marks.{BlockMarks, has, with_block}
+use Rattle.era_model.specs.Marks.{BlockMarks, with_block}
 use Rattle.era_model.specs.SessionRun.{AreAllDrawnBy}
-use Rattle.era_plan.specs.declared.task.Task.{Task}
-use Rattle.era_plan.specs.declared.task.Task.TheVariants.{Write as WriteTask}
-use Rattle.era_plan.specs.declared.task.Write.{Write}
+use Rattle.era_model.specs.declared.command.Task.{Task}
 use Rattle.era_top.specs.declared.outcome.Outcome.{Outcome}
 use Rattle.era_top.specs.Outcomes.{EventSubject, era_after_all}
-use Rattle.era_top.specs.Runs.{lane_zero, commands_from, place_of_write, FollowJournal, IsJournalOf, IsBetween, IsFresh}
+use Rattle.era_top.specs.Runs.{lane_zero, commands_from, place_of_write, task_of_write, FollowJournal, IsJournalOf, IsBetween, HasDrawnNothing, Write}
 use Rattle.era_top.proofs.Journals.{same_number, same_command, other_number, other_number_back, at_opening-known, own-event, other-event, drawn-more, drawn-last}
 use Rattle.era_top.proofs.MarkSteps.{follow-mark, follow-marked, marked-last}
 
 -- a command stays fresh at an event of another one
-pub fresh-after : (h : List Happening) (event : Event) (n m : ℕ) → drawn_by event ≡ lane_zero n → n < m → is_go_of (lane_zero m) event ≡ false → IsFresh h m → IsFresh (Happened event ∷ h) m
+pub fresh-after : (h : List Happening) (event : Event) (n m : ℕ) → drawn_by event ≡ lane_zero n → n < m → is_go_of (lane_zero m) event ≡ false → HasDrawnNothing h m → HasDrawnNothing (Happened event ∷ h) m
 fresh-after h event n m drawn later go fresh = record {
   no_event = other-event h event n m drawn (other_number n m later) ∙ fresh.no_event;
   no_go = rw go fresh.no_go;
@@ -68,8 +67,8 @@ pub record IsReady (g : Geometry) (contents : List ℕ) (tasks : List Task) (out
   pub next : next_place h ≡ go_place issue.marks issue.start
   pub no_go : some_event h (is_go_of (lane_zero (length tasks))) ≡ false
   pub kept : (m : ℕ) → m < length tasks → events_of h (lane_zero m) ≡ events_of before (lane_zero m)
-  pub drawn : AreAllDrawnBy (commands_from 0 (tasks ++ WriteTask issue.write ∷ [])) h
-  pub fresh : (m : ℕ) → length tasks < m → IsFresh h m
+  pub drawn : AreAllDrawnBy (commands_from 0 (tasks ++ task_of_write issue.write ∷ [])) h
+  pub fresh : (m : ℕ) → length tasks < m → HasDrawnNothing h m
   pub follow : FollowJournal g marks issue.era h
   pub lasts : (block : ℕ) → journal_last_era h block ≡ (if issue.place.0 == block then issue.era else journal_last_era before block)
   pub has_mark : is_marked_in h issue.place.0 issue.era ≡ true
@@ -95,7 +94,7 @@ ready-marked g contents tasks outcomes marks h write place journal between place
       next = refl;
       no_go = (between.fresh (length tasks) (omega arith)).no_go;
       kept = λ m less. refl;
-      drawn = drawn-more tasks (WriteTask write) h journal.drawn;
+      drawn = drawn-more tasks (task_of_write write) h journal.drawn;
       fresh = λ m later. between.fresh m (omega arith);
       follow = follow-marked g marks era place.0 h between.follow within is gives bounded;
       lasts = marked-last g marks era place.0 h between.follow is bounded;
@@ -133,7 +132,7 @@ ready-unmarked g contents tasks outcomes marks h write place journal between pla
       next = (omega arith);
       no_go = (between.fresh n (omega arith)).no_go;
       kept = λ m less. let apart = other_number_back n m (omega arith) in other-event tried (Mark id place.0 era) n m refl apart ∙ other-event h (Tried id place.0 era) n m refl apart;
-      drawn = drawn-last tasks (WriteTask write) tried (Mark id place.0 era) refl (drawn-last tasks (WriteTask write) h (Tried id place.0 era) refl (drawn-more tasks (WriteTask write) h journal.drawn));
+      drawn = drawn-last tasks (task_of_write write) tried (Mark id place.0 era) refl (drawn-last tasks (task_of_write write) h (Tried id place.0 era) refl (drawn-more tasks (task_of_write write) h journal.drawn));
       fresh = λ m later. fresh-after tried (Mark id place.0 era) n m refl later refl (fresh-after h (Tried id place.0 era) n m refl later refl (between.fresh m (omega arith)));
       follow = follow-mark g marks era place.0 id tried (asked between.follow) within gives;
       lasts = λ block. refl;

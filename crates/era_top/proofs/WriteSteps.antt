@@ -19,16 +19,14 @@ use Rattle.era_model.specs.Journal.{session_opening}
 use Rattle.era_model.specs.Marks.{BlockMarks}
 use Rattle.era_model.specs.SessionRun.{AreAllDrawnBy}
 use Rattle.era_model.specs.StreamLists.{block_written, ListsNameWritten}
-use Rattle.era_plan.specs.declared.task.Task.{Task}
-use Rattle.era_plan.specs.declared.task.Task.TheVariants.{Write as WriteTask}
-use Rattle.era_plan.specs.ModelRounds.{model_task}
-use Rattle.era_plan.proofs.ModelSteps.{commands_from-push}
+use Rattle.era_model.specs.declared.command.Task.{Task}
 use Rattle.era_top.specs.declared.outcome.Outcome.{Outcome}
 use Rattle.era_top.specs.declared.outcome.Outcome.TheVariants.{Done, Cut}
 use Rattle.era_top.specs.Outcomes.{EventSubject, ended_events, era_after_all, event_count, is_issued, outcome_events}
-use Rattle.era_top.specs.Runs.{command_of, commands_from, lane_zero, place_of_write, subject_of, subject_of_write, AreAnswered, IsJournalOf, IsBetween, MarksWritten}
+use Rattle.era_top.specs.Runs.{command_of, commands_from, lane_zero, place_of_write, subject_of, subject_of_write, task_of_write, AreAnswered, IsJournalOf, IsBetween, MarksWritten}
 use Rattle.era_top.proofs.Journals.{same_command, other_number, other_number_back, at_opening-known, own-event, other-event, answered-kept, answered-push, drawn-last, era_after_all-push}
 use Rattle.era_top.proofs.StreamSteps.{lists-push, stream-write}
+use Rattle.era_top.proofs.TaskCommands.{commands_from-push}
 use Rattle.era_top.proofs.WriteMarks.{Issue, IsReady, fresh-after, go_place, issue_at, mark_events}
 
 -- The journal after a write was issued to a block that is ready, and ended.
@@ -106,7 +104,7 @@ ended-answered : (g : Geometry) (contents : List ℕ) (tasks : List Task) (outco
     → IsIssued g contents tasks outcomes issue marks before h → Ends (length tasks) ended → is_issued outcome ≡ true
     → outcome_events (issue_at (length tasks) issue) issue.start outcome ≡ ended_events issue.marks (issue_at (length tasks) issue) issue.start ended
     → event_count outcome ≡ (if issue.marks then 4 else 2)
-    → AreAnswered g (ended_with (length tasks) issue ended h) 0 1 0 (tasks ++ WriteTask issue.write ∷ []) (outcomes ++ outcome ∷ []) (next_place h + 1 + 1)
+    → AreAnswered g (ended_with (length tasks) issue ended h) 0 1 0 (tasks ++ task_of_write issue.write ∷ []) (outcomes ++ outcome ∷ []) (next_place h + 1 + 1)
 ended-answered g contents tasks outcomes issue marks before h ended outcome issued ends is shape counted =
     let n = length tasks in
     let ready = issued.ready in
@@ -117,23 +115,23 @@ ended-answered g contents tasks outcomes issue marks before h ended outcome issu
     let subject : issue_at n issue ≡ subject_of_write n (era_after_all 1 outcomes) issue.write (place_of_write g issue.write) =
     ap (λ era. record { id = lane_zero n; era = era; block = issue.place.0; first = issue.place.1; bytes = issue.write.bytes; since = 0 }) issued.era
     ∙ ap (subject_of_write n (era_after_all 1 outcomes) issue.write) (sym ready.placed) in
-    let own : events_of after (lane_zero n) ≡ outcome_events (subject_of g n (era_after_all 1 outcomes) (WriteTask issue.write)) (next_place before) outcome =
+    let own : events_of after (lane_zero n) ≡ outcome_events (subject_of g n (era_after_all 1 outcomes) (task_of_write issue.write)) (next_place before) outcome =
     own-ended g contents tasks outcomes issue marks before h ended ready ends.drawn ∙ sym shape
     ∙ ap (λ subject. outcome_events subject issue.start outcome) subject
-    ∙ ap (λ start. outcome_events (subject_of g n (era_after_all 1 outcomes) (WriteTask issue.write)) start outcome) issued.start in
-    answered-push g after 0 1 0 tasks outcomes (next_place before) (WriteTask issue.write) outcome (next_place h + 1 + 1) kept
+    ∙ ap (λ start. outcome_events (subject_of g n (era_after_all 1 outcomes) (task_of_write issue.write)) start outcome) issued.start in
+    answered-push g after 0 1 0 tasks outcomes (next_place before) (task_of_write issue.write) outcome (next_place h + 1 + 1) kept
     (rw ready.placed is)
-    (subst (λ k. events_of after (lane_zero k) ≡ outcome_events (subject_of g k (era_after_all 1 outcomes) (WriteTask issue.write)) (next_place before) outcome)
+    (subst (λ k. events_of after (lane_zero k) ≡ outcome_events (subject_of g k (era_after_all 1 outcomes) (task_of_write issue.write)) (next_place before) outcome)
     (let e : n ≡ 0 + n = omega arith in e) own)
     (let c = ended-count issue.marks issue.start in let s = issued.start in let x = ready.next in omega (arith, counted))
 
 -- each event is of one of the commands
 ended-drawn : (g : Geometry) (contents : List ℕ) (tasks : List Task) (outcomes : List Outcome) (issue : Issue) (marks : BlockMarks) (before h : List Happening) (ended : Event)
     → IsReady g contents tasks outcomes issue marks before h → Ends (length tasks) ended
-    → AreAllDrawnBy (commands_from 0 (tasks ++ WriteTask issue.write ∷ [])) (ended_with (length tasks) issue ended h)
+    → AreAllDrawnBy (commands_from 0 (tasks ++ task_of_write issue.write ∷ [])) (ended_with (length tasks) issue ended h)
 ended-drawn g contents tasks outcomes issue marks before h ended ready ends =
     let go = Go (lane_zero (length tasks)) issue.place.0 issue.era issue.place.1 issue.write.bytes in
-    drawn-last tasks (WriteTask issue.write) (Happened go ∷ h) ended ends.drawn (drawn-last tasks (WriteTask issue.write) h go refl ready.drawn)
+    drawn-last tasks (task_of_write issue.write) (Happened go ∷ h) ended ends.drawn (drawn-last tasks (task_of_write issue.write) h go refl ready.drawn)
 
 -- the commands with one more behind them
 pub commands-more : (tasks : List Task) (task : Task) → commands_from 0 (tasks ++ task ∷ []) ≡ commands_from 0 tasks ++ command_of (length tasks) task ∷ []
@@ -142,11 +140,11 @@ commands-more tasks task = commands_from-push 0 tasks task ∙ ap (λ n. command
 -- a write is no list
 ended-lists : (g : Geometry) (contents : List ℕ) (tasks : List Task) (outcomes : List Outcome) (issue : Issue) (marks : BlockMarks) (before h : List Happening) (ended : Event)
     → IsIssued g contents tasks outcomes issue marks before h → Ends (length tasks) ended
-    → ListsNameWritten g (ended_with (length tasks) issue ended h) (commands_from 0 (tasks ++ WriteTask issue.write ∷ []))
+    → ListsNameWritten g (ended_with (length tasks) issue ended h) (commands_from 0 (tasks ++ task_of_write issue.write ∷ []))
 ended-lists g contents tasks outcomes issue marks before h ended issued ends =
     let after = ended_with (length tasks) issue ended h in
-    subst (λ commands. ListsNameWritten g after commands) (sym (commands-more tasks (WriteTask issue.write)))
-    (lists-push g tasks (command_of (length tasks) (WriteTask issue.write)) before after issued.journal.lists
+    subst (λ commands. ListsNameWritten g after commands) (sym (commands-more tasks (task_of_write issue.write)))
+    (lists-push g tasks (command_of (length tasks) (task_of_write issue.write)) before after issued.journal.lists
     (ended-kept g contents tasks outcomes issue marks before h ended issued.ready ends)
     (λ since asks. absurd (cc)))
 
@@ -164,7 +162,7 @@ done-content n issue h block = rw (same_command n) refl
 -- the journal after a write was acknowledged
 pub done-journal : (g : Geometry) (contents : List ℕ) (tasks : List Task) (outcomes : List Outcome) (issue : Issue) (marks : BlockMarks) (before h : List Happening)
     → IsIssued g contents tasks outcomes issue marks before h
-    → IsJournalOf g contents (tasks ++ WriteTask issue.write ∷ []) (outcomes ++ Done issue.marks ∷ []) (ended_with (length tasks) issue (DoneEvent (lane_zero (length tasks))) h)
+    → IsJournalOf g contents (tasks ++ task_of_write issue.write ∷ []) (outcomes ++ Done issue.marks ∷ []) (ended_with (length tasks) issue (DoneEvent (lane_zero (length tasks))) h)
 done-journal g contents tasks outcomes issue marks before h issued =
     let n = length tasks in
     let ready = issued.ready in
@@ -184,13 +182,13 @@ done-journal g contents tasks outcomes issue marks before h issued =
     }
 
 -- a write in range is one of its block
-write-block : (g : Geometry) (issue : Issue) → place_of_write g issue.write ≡ Some issue.place → block_written g (model_task (WriteTask issue.write)) ≡ Some issue.place.0
+write-block : (g : Geometry) (issue : Issue) → place_of_write g issue.write ≡ Some issue.place → block_written g (task_of_write issue.write) ≡ Some issue.place.0
 write-block g issue placed = ap (λ place. option_map (λ p. p.0) place) placed
 
 -- and between that write and the next command
 pub done-between : (g : Geometry) (contents : List ℕ) (tasks : List Task) (outcomes : List Outcome) (issue : Issue) (marks : BlockMarks) (before h : List Happening)
     → IsIssued g contents tasks outcomes issue marks before h → MarksWritten g (commands_from 0 tasks) issue.era before
-    → IsBetween g (tasks ++ WriteTask issue.write ∷ []) marks issue.era (ended_with (length tasks) issue (DoneEvent (lane_zero (length tasks))) h)
+    → IsBetween g (tasks ++ task_of_write issue.write ∷ []) marks issue.era (ended_with (length tasks) issue (DoneEvent (lane_zero (length tasks))) h)
 done-between g contents tasks outcomes issue marks before h issued stream =
     let n = length tasks in
     let ready = issued.ready in
@@ -207,10 +205,10 @@ done-between g contents tasks outcomes issue marks before h issued stream =
         lasts = ready.follow.lasts;
         none_later = ready.follow.none_later;
       };
-      stream = subst (λ commands. MarksWritten g commands issue.era after) (sym (commands-more tasks (WriteTask issue.write)))
-          (stream-write g (commands_from 0 tasks) (command_of n (WriteTask issue.write)) issue.era issue.place.0 before after stream
+      stream = subst (λ commands. MarksWritten g commands issue.era after) (sym (commands-more tasks (task_of_write issue.write)))
+          (stream-write g (commands_from 0 tasks) (command_of n (task_of_write issue.write)) issue.era issue.place.0 before after stream
           (write-block g issue ready.placed) refl issued.within ready.lasts);
-      fresh = λ m later. let far : n < m = (let e = length_push tasks (WriteTask issue.write) in omega arith) in
+      fresh = λ m later. let far : n < m = (let e = length_push tasks (task_of_write issue.write) in omega arith) in
           fresh-after (Happened go ∷ h) (DoneEvent (lane_zero n)) n m refl far refl (fresh-after h go n m refl far (other_number n m far) (ready.fresh m far));
       no_fault = λ at now. (tt, (tt, ready.no_fault at now));
       untold = ready.untold;
@@ -219,7 +217,7 @@ done-between g contents tasks outcomes issue marks before h issued stream =
 -- the journal after a write was cut, whose fault the disk tells
 pub cut-journal : (g : Geometry) (contents : List ℕ) (tasks : List Task) (outcomes : List Outcome) (issue : Issue) (marks : BlockMarks) (before h : List Happening) (faults : ℕ)
     → IsIssued g contents tasks outcomes issue marks before h
-    → IsJournalOf g contents (tasks ++ WriteTask issue.write ∷ []) (outcomes ++ Cut issue.marks faults ∷ []) (ended_with (length tasks) issue (CutEvent (lane_zero (length tasks)) faults) h)
+    → IsJournalOf g contents (tasks ++ task_of_write issue.write ∷ []) (outcomes ++ Cut issue.marks faults ∷ []) (ended_with (length tasks) issue (CutEvent (lane_zero (length tasks)) faults) h)
 cut-journal g contents tasks outcomes issue marks before h faults issued =
     let n = length tasks in
     let ready = issued.ready in

@@ -5,7 +5,8 @@ use Rattle.era_model.specs.declared.history.Happening.{Happening}
 use Rattle.era_model.specs.declared.reply.Answer.{Answer}
 use Rattle.era_model.specs.declared.reply.Answer.TheVariants.{Fault, Memory}
 use Rattle.era_model.specs.declared.reply.Device.TheVariants.{Data}
-use Rattle.era_model.specs.Commands.{Command, events_of, answer_of}
+use Rattle.era_model.specs.declared.command.Command.{Command}
+use Rattle.era_model.specs.Commands.{events_of, answer_of}
 
 -- Whether an answer says that memory was refused.
 abbrev pub says_memory : Answer → Bool

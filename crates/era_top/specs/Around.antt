@@ -4,6 +4,10 @@ use Rattle.era_base.specs.Bay.{Loan}
 use Rattle.era_base.specs.CrashModel.{History}
 use Rattle.era_base.specs.Disk.{Place}
 use Rattle.era_base.specs.Faults.{Rose, NoneRose}
+use Rattle.era_base.specs.declared.disk.Disk.{Ghosts as DiskMembers}
+use Rattle.era_base.specs.declared.bay.Bay.{Ghosts as BayMembers}
+use Rattle.era_base.specs.declared.streams.Source.{Ghosts as SourceMembers}
+use Rattle.era_base.specs.declared.streams.Sink.{Ghosts as SinkMembers}
 
 -- What a bay's disks tell: their place, their size, their states, their counts of faults, and whether they tell their content.
 pub record DiskFacts (D : Type 0) : Type 0 where
@@ -33,6 +37,41 @@ pub record StreamsAround : Type 0 where
   pub given' : Option (List ℕ)
   pub sink_faults : ℕ
   pub sink_faults' : ℕ
+
+-- What the disks of a type tell.
+abbrev pub disk_facts : {D : Type 0} → DiskMembers D → DiskFacts D
+disk_facts disk = record {
+  place = disk.place;
+  sectors = disk.sectors;
+  history = disk.history;
+  faults = disk.faults;
+  tells = disk.tells;
+}
+
+-- A bay around a call, by what it was when the call began and when it returned.
+abbrev pub bay_around : {B D : Type 0} → BayMembers B D → B → B → BayAround D
+bay_around bay old new = record {
+  sizes = bay.sizes new;
+  reads = bay.reads old;
+  reads' = bay.reads new;
+  loans = bay.loans old;
+  loans' = bay.loans new;
+  faults = bay.faults old;
+  faults' = bay.faults new;
+}
+
+-- A source and a sink around a call, by what they were when it began and when it returned.
+abbrev pub streams_around : {S K : Type 0} → SourceMembers S → SinkMembers K → S → S → K → K → StreamsAround
+streams_around source sink source_old source_new sink_old sink_new = record {
+  left = source.left source_old;
+  left' = source.left source_new;
+  source_faults = source.faults source_old;
+  source_faults' = source.faults source_new;
+  given = sink.given sink_old;
+  given' = sink.given sink_new;
+  sink_faults = sink.faults sink_old;
+  sink_faults' = sink.faults sink_new;
+}
 
 -- A loan began in the call, and this disk was put back for it.
 pub record CameBack {D : Type 0} (bay : BayAround D) (loan : Loan D) (back : D) : Type 0 where

@@ -3,6 +3,7 @@ pub mod Outcomes
 pub mod Runs
 pub mod Steps
 pub mod Answered
+pub mod Gathered
 pub mod Sessions
 pub mod Rises
 pub mod Around

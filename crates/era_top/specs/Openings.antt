@@ -16,7 +16,7 @@ use Rattle.era_top.specs.Rises.{HasRiseFor}
 use Rattle.era_top.specs.Sessions.{Goes}
 
 -- The origin of a table line was lent as it reads, and its loan is the last one.
-pub record IsLent {D : Type 0} (disks : DiskFacts D) (bay : BayAround D) (line : TableLine) (lent : D) : Type 0 where
+pub record IsOriginLent {D : Type 0} (disks : DiskFacts D) (bay : BayAround D) (line : TableLine) (lent : D) : Type 0 where
   pub origin : IsOrigin disks bay line lent
   pub content : disks.tells ≡ true → ReadsAs bay.reads line.origin 0 line.length (disks.history lent).now
   pub loans : bay.loans' ≡ bay.loans ++ new_loan lent ∷ []
@@ -38,17 +38,17 @@ bay_refusal count Memory = NoRoom
 
 -- The origin of a table line was lent, or wasn't for this cause.
 abbrev pub OpensOrigin : {D : Type 0} → DiskFacts D → BayAround D → TableLine → Result D Refusal → Type 0
-OpensOrigin disks bay line result = MatchResult result (IsLent disks bay line) (λ refusal. IsOriginCause bay line refusal × LeavesBay bay)
+OpensOrigin disks bay line result = MatchResult result (IsOriginLent disks bay line) (λ refusal. IsOriginCause bay line refusal × LeavesBay bay)
 
 -- The origin that the words name was lent, with the geometry that they give it.
 pub record IsOpened {D : Type 0} (words : List (List ℕ)) (disks : DiskFacts D) (bay : BayAround D) (geometry : Geometry) (lent : D) : Type 0 where
   pub line : TableLine
   pub asked : AsksFor words line geometry
-  pub taken : IsLent disks bay line lent
+  pub taken : IsOriginLent disks bay line lent
 
 -- The origin that the words name was lent, or wasn't for this cause.
-abbrev pub Opens : {D : Type 0} → List (List ℕ) → DiskFacts D → BayAround D → Result (Geometry × D) Refusal → Type 0
-Opens words disks bay result =
+abbrev pub OpensAsAsked : {D : Type 0} → List (List ℕ) → DiskFacts D → BayAround D → Result (Geometry × D) Refusal → Type 0
+OpensAsAsked words disks bay result =
     MatchResult result (λ opened. IsOpened words disks bay opened.0 opened.1) (λ refusal. IsCauseOf words bay refusal × LeavesBay bay)
 
 -- A session was served over a disk, and the disk was put back behind the loans that began before it.

@@ -6,6 +6,7 @@ use Rattle.era_base.specs.declared.geometry.GeomError.TheVariants.{BadBlockSize,
 use Rattle.era_base.specs.Bay.{new_loan, ended_loan, HasContent, SameReads, SameReadsBut}
 use Rattle.era_base.specs.Faults.{Rose}
 use Rattle.era_base.specs.Geometry.{IsBlockSize, blocks_of, need_of}
+use Rattle.era_base.specs.declared.limits.TheConstants.{MOST_BLOCKS}
 use Rattle.era_line.specs.declared.table_line.TableLine.{TableLine}
 use Rattle.era_top.specs.declared.refusal.Refusal.{Refusal}
 use Rattle.era_top.specs.declared.refusal.Refusal.TheVariants.{NoCommand, NoRoom, NoGeometry, BayFault, TooSmall}
@@ -33,7 +34,7 @@ report_text (Serves session) = session_text session
 abbrev pub IsNoGeometry : GeomError → ℕ → ℕ → Type 0
 IsNoGeometry BadBlockSize sectors size = ¬ IsBlockSize size
 IsNoGeometry NoBlocks sectors size = IsBlockSize size × (sectors ≡ 0)
-IsNoGeometry (TooManyBlocks count) sectors size = IsBlockSize size × (count ≡ blocks_of sectors size) × (65536 < count)
+IsNoGeometry (TooManyBlocks count) sectors size = IsBlockSize size × (count ≡ blocks_of sectors size) × (MOST_BLOCKS < count)
 
 -- The words are a serve command, and its table line gives this geometry.
 pub record AsksFor (words : List (List ℕ)) (line : TableLine) (geometry : Geometry) : Type 0 where

@@ -1,28 +1,29 @@
 -- Runs of a stream's commands: the events that each of them has, and the journal of them all.
-use Rattle.std.specs.Prelude.{◌≡◌, ◌⊎◌, ◌↔◌, ℕ, ◌+◌, ◌/◌, ◌<◌, ◌≤◌, max, Bool, true, false, List, [], ◌∷◌, length, Option, Some, None}
+use Rattle.std.specs.Prelude.{◌≡◌, ◌⊎◌, ◌↔◌, ℕ, ◌+◌, ◌/◌, ◌<◌, ◌≤◌, max, Bool, true, false, List, [], ◌∷◌, length, map, Option, Some, None}
 use Rattle.std.specs.List.{list_any}
+use Rattle.era_base.specs.Flags.{has}
 use Rattle.era_base.specs.declared.geometry.Geometry.{Geometry}
 use Rattle.era_base.specs.declared.ids.CmdId.{CmdId}
 use Rattle.era_base.specs.Geometry.{blocks_of, place_at}
 use Rattle.era_model.specs.declared.history.Happening.{Happening}
 use Rattle.era_model.specs.Changed.{IsCrashContent}
-use Rattle.era_model.specs.Commands.{Command, events_of}
+use Rattle.era_model.specs.declared.command.Command.{Command}
+use Rattle.era_model.specs.Commands.{events_of}
 use Rattle.era_model.specs.Counts.{FaultyDisk, CountsAreWithin, last_count}
 use Rattle.era_model.specs.Events.{is_go_of}
 use Rattle.era_model.specs.History.{at_opening, era_of, in_flight, is_open, next_place}
 use Rattle.era_model.specs.Journal.{session_opening}
 use Rattle.era_model.specs.Legal.{IsLegal}
 use Rattle.era_model.specs.Marking.{is_marked_in, journal_last_era, some_event}
-use Rattle.era_model.specs.Marks.{BlockMarks, has, marks_last_era}
+use Rattle.era_model.specs.Marks.{BlockMarks, marks_last_era}
 use Rattle.era_model.specs.SessionRun.{AreAllDrawnBy}
 use Rattle.era_model.specs.StreamLists.{era_behind, IsWrittenSince, ListsNameWritten}
 use Rattle.era_model.specs.Validity.{AreValidMarks}
 use Rattle.era_model.specs.Writes.{block_bytes}
-use Rattle.era_plan.specs.declared.task.Request.TheVariants.{Checkpoint, ListSince}
-use Rattle.era_plan.specs.declared.task.Task.{Task}
-use Rattle.era_plan.specs.declared.task.Task.TheVariants.{Write as WriteTask, Ask}
-use Rattle.era_plan.specs.declared.task.Write.{Write}
-pub use Rattle.era_plan.specs.ModelRounds.{command_of, commands_from}
+use Rattle.era_model.specs.declared.command.Request.TheVariants.{Checkpoint, List as ListRequest}
+use Rattle.era_model.specs.declared.command.Task.{Task}
+use Rattle.era_model.specs.declared.command.Task.TheVariants.{Write as WriteTask, Ask}
+pub use Rattle.era_plan.specs.Grammar.{command_of}
 use Rattle.era_top.specs.declared.outcome.Outcome.{Outcome}
 use Rattle.era_top.specs.declared.outcome.Outcome.TheVariants.{OutOfRange, Moved, LastEra, Listed, NoMemory}
 use Rattle.era_top.specs.Outcomes.{EventSubject, era_after, era_after_all, event_count, is_cut_outcome, is_issued, lacks_memory, outcome_events}
@@ -30,6 +31,24 @@ use Rattle.era_top.specs.Outcomes.{EventSubject, era_after, era_after_all, event
 -- The command of lane 0 with the number.
 abbrev pub lane_zero : ℕ → CmdId
 lane_zero number = record { lane = 0; number = number }
+
+-- What a write of a stream asks for: these bytes, from this sector on.
+pub record Write : Type 0 where
+  pub sector : ℕ
+  pub bytes : List ℕ
+
+-- The task that asks for a write.
+abbrev pub task_of_write : Write → Task
+task_of_write write = WriteTask write.sector write.bytes
+
+-- The commands of tasks, one after another, the first of them with this index in the input.
+abbrev pub commands_from : ℕ → List Task → List Command
+commands_from index [] = []
+commands_from index (task ∷ tasks) = command_of index task ∷ commands_from (index + 1) tasks
+
+-- What commands do, in their order.
+abbrev pub tasks_of : List Command → List Task
+tasks_of commands = map (λ command. command.task) commands
 
 -- The block of a write and the first sector within it, or none where its sectors lie in no one block.
 abbrev pub place_of_write : Geometry → Write → Option (ℕ × ℕ)
@@ -46,11 +65,12 @@ FitsList (Listed blocks) = Unit {0}
 FitsList NoMemory = Unit {0}
 FitsList outcome = ⊥
 
--- A task may go so in the era: a checkpoint moves to the next one, or the era is the last one.
+-- A task may go so in the era: a checkpoint moves to the next one, or the era is the last one. No other task is served.
 abbrev pub FitsTask : Geometry → ℕ → Task → Outcome → Type 0
-FitsTask g era (WriteTask write) outcome = FitsPlace (place_of_write g write) outcome
+FitsTask g era (WriteTask sector bytes) outcome = FitsPlace (place_of_write g (record { sector = sector; bytes = bytes })) outcome
 FitsTask g era (Ask Checkpoint) outcome = (outcome ≡ Moved (era + 1)) ⊎ (outcome ≡ LastEra)
-FitsTask g era (Ask (ListSince since)) outcome = FitsList outcome
+FitsTask g era (Ask (ListRequest since false)) outcome = FitsList outcome
+FitsTask g era task outcome = ⊥
 
 -- What the events of a write with this number name, by its place.
 abbrev pub subject_of_write : ℕ → ℕ → Write → Option (ℕ × ℕ) → EventSubject
@@ -61,11 +81,10 @@ subject_of_write number era write (Some place) =
 
 -- What the events of a command with this number name, that runs in this era.
 abbrev pub subject_of : Geometry → ℕ → ℕ → Task → EventSubject
-subject_of g number era (WriteTask write) = subject_of_write number era write (place_of_write g write)
-subject_of g number era (Ask Checkpoint) =
-    record { id = lane_zero number; era = era; block = 0; first = 0; bytes = []; since = 0 }
-subject_of g number era (Ask (ListSince since)) =
-    record { id = lane_zero number; era = era; block = 0; first = 0; bytes = []; since = since }
+subject_of g number era (WriteTask sector bytes) =
+    let write : Write = record { sector = sector; bytes = bytes } in subject_of_write number era write (place_of_write g write)
+subject_of g number era (Ask (ListRequest since snap)) = record { id = lane_zero number; era = era; block = 0; first = 0; bytes = []; since = since }
+subject_of g number era task = record { id = lane_zero number; era = era; block = 0; first = 0; bytes = []; since = 0 }
 
 -- Each of the commands, from a number, an era and a place of the journal on, has the events that its outcome says, and the next place is this one.
 abbrev pub AreAnswered : Geometry → List Happening → ℕ → ℕ → ℕ → List Task → List Outcome → ℕ → Type 0
@@ -95,7 +114,7 @@ pub record IsJournalOf (g : Geometry) (contents : List ℕ) (tasks : List Task) 
   pub lists : ListsNameWritten g h (commands_from 0 tasks)
 
 -- The command with the number has drawn nothing.
-pub record IsFresh (h : List Happening) (number : ℕ) : Type 0 where
+pub record HasDrawnNothing (h : List Happening) (number : ℕ) : Type 0 where
   pub no_event : events_of h (lane_zero number) ≡ []
   pub no_go : some_event h (is_go_of (lane_zero number)) ≡ false
 
@@ -121,7 +140,7 @@ pub record IsBetween (g : Geometry) (tasks : List Task) (marks : BlockMarks) (er
   pub quiet : in_flight h ≡ []
   pub follow : FollowJournal g marks era h
   pub stream : MarksWritten g (commands_from 0 tasks) era h
-  pub fresh : (number : ℕ) → length tasks ≤ number → IsFresh h number
+  pub fresh : (number : ℕ) → length tasks ≤ number → HasDrawnNothing h number
   pub no_fault : (at_opening now : FaultyDisk → ℕ) → CountsAreWithin at_opening now h
   pub untold : (disk : FaultyDisk) → last_count h disk ≡ None
 

@@ -5,7 +5,8 @@ use Rattle.era_base.specs.CrashModel.{State, IsClean}
 use Rattle.era_base.specs.Faults.{Rose}
 use Rattle.era_base.specs.Streams.{GivesFront}
 use Rattle.era_model.specs.declared.history.Happening.{Happening}
-use Rattle.era_model.specs.Commands.{Command}
+use Rattle.era_model.specs.declared.command.Command.{Command}
+use Rattle.era_model.specs.Commands.{one_round}
 use Rattle.era_model.specs.Counts.{CountsAreWithin}
 use Rattle.era_model.specs.History.{at_opening, era_of, in_flight, next_place}
 use Rattle.era_model.specs.Journal.{session_opening}
@@ -13,7 +14,6 @@ use Rattle.era_model.specs.Legal.{IsLegal}
 use Rattle.era_model.specs.SessionRun.{IsRun}
 use Rattle.era_model.specs.StreamLists.{IsWrittenSince, ListsNameWritten}
 use Rattle.era_model.specs.Transcript.{Stop, ReadToEnd, RefusedLine, SourceFault, NoMemory, replies_text, stop_line, end_line, session_transcript}
-use Rattle.era_plan.specs.declared.task.Task.{Task}
 use Rattle.era_plan.specs.declared.round.PlanError.{PlanError}
 use Rattle.era_plan.specs.declared.round.PlanError.TheVariants.{Line as LineError, Source as SourceError, Memory as MemoryError}
 use Rattle.era_plan.specs.Grammar.{lines_of}
@@ -22,7 +22,7 @@ use Rattle.era_top.specs.declared.status.Status.{Status}
 use Rattle.era_top.specs.declared.status.Status.TheVariants.{Done, Line, Fault, Memory, Source, Sink}
 use Rattle.era_top.specs.declared.outcome.Outcome.{Outcome}
 use Rattle.era_top.specs.Answered.{some_says_memory, EndInFault}
-use Rattle.era_top.specs.Runs.{commands_from, some_cut, some_lack, ReadsAsJournal}
+use Rattle.era_top.specs.Runs.{some_cut, some_lack, ReadsAsJournal}
 
 -- What a session tells: its journal, the commands that it answered, and why it stopped reading.
 pub record Session : Type 0 where
@@ -32,7 +32,7 @@ pub record Session : Type 0 where
 
 -- The text of a session.
 abbrev pub session_text : Session → List ℕ
-session_text session = session_transcript session.journal session.commands session.stop
+session_text session = session_transcript session.journal (one_round session.commands) session.stop
 
 -- What the outside had when a session began and when it ended: the bytes that were left of the source, the counts of faults of the source and the disk, and what the disk tells.
 pub record Around : Type 0 where
@@ -50,25 +50,25 @@ pub record Around : Type 0 where
 pub record IsSession (g : Geometry) (contents : List ℕ) (around : Around) (session : Session) : Type 0 where
   pub opened : at_opening None (λ opening. Some opening) session.journal ≡ Some (session_opening g contents)
   pub legal : IsLegal session.journal
-  pub run : IsRun session.journal (session.commands ∷ [])
+  pub run : IsRun session.journal (one_round session.commands)
   pub lists : ListsNameWritten g session.journal session.commands
   pub counts : CountsAreWithin (λ _. around.disk_faults) (λ _. around.disk_faults') session.journal
   pub reads : around.tells ≡ true → contents ≡ around.disk.seen → ReadsAsJournal g session.journal around.disk'.seen
 
--- A source was read to its end: the lines of its text spell these tasks, nothing of it is left, and its count of faults is as before.
-pub record IsReadWhole (left left' : Option (List ℕ)) (faults faults' : ℕ) (tasks : List Task) : Type 0 where
-  pub spelled : (text : List ℕ) → left ≡ Some text → SpellRound (lines_of text) tasks
+-- A source was read to its end: the lines of its text spell these commands, nothing of it is left, and its count of faults is as before.
+pub record IsReadWhole (left left' : Option (List ℕ)) (faults faults' : ℕ) (commands : List Command) : Type 0 where
+  pub spelled : (text : List ℕ) → left ≡ Some text → SpellRound (lines_of text) commands
   pub at_end : (text : List ℕ) → left ≡ Some text → left' ≡ Some []
   pub kept : faults' ≡ faults
 
--- The stream was read to its end: its lines spell tasks, and those that were answered are the first of them.
+-- The stream was read to its end: its lines spell commands, and those that were answered are the first of them.
 pub record HasReadAll (around : Around) (session : Session) : Type 0 where
-  pub tasks : List Task
+  pub spelled : List Command
   pub answered : ℕ
-  pub source : IsReadWhole around.left around.left' around.source_faults around.source_faults' tasks
-  pub commands : session.commands ≡ commands_from 0 (take answered tasks)
+  pub source : IsReadWhole around.left around.left' around.source_faults around.source_faults' spelled
+  pub commands : session.commands ≡ take answered spelled
   pub stop : session.stop ≡ ReadToEnd
-  pub whole : in_flight session.journal ≡ [] → take answered tasks ≡ tasks
+  pub whole : in_flight session.journal ≡ [] → take answered spelled ≡ spelled
 
 -- Each command of the stream was answered and no write is in flight, the disk didn't fail, and with a write in range nothing is pending on it.
 pub record HasDoneAll (g : Geometry) (around : Around) (session : Session) : Type 0 where

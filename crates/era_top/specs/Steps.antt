@@ -1,28 +1,29 @@
 -- What running commands does to the marks in memory and to the disk.
 use Rattle.std.specs.Prelude.{◌≡◌, ℕ, ◌+◌, ◌*◌, ◌/◌, ◌<◌, ◌≤◌, not, Bool, true, false, List, [], ◌∷◌, ◌++◌, length, take, Some, None}
+use Rattle.era_base.specs.Flags.{has}
 use Rattle.era_base.specs.declared.geometry.Geometry.{Geometry}
 use Rattle.era_base.specs.Bytes.{splice}
 use Rattle.era_base.specs.CrashModel.{State, SameBut, IsClean}
 use Rattle.era_base.specs.Faults.{Rose}
+use Rattle.era_base.specs.declared.limits.TheConstants.{LAST_ERA}
 use Rattle.era_base.specs.Geometry.{blocks_of}
 use Rattle.era_model.specs.declared.history.Happening.{Happening}
 use Rattle.era_model.specs.Conditions.{ListsExactly}
 use Rattle.era_model.specs.Counts.{CountsAreWithin}
 use Rattle.era_model.specs.History.{era_of, in_flight}
 use Rattle.era_model.specs.MarkLaws.{LastsAreBounded, MarkGivesEra, SwitchKeepsMarks}
-use Rattle.era_model.specs.Marks.{BlockMarks, blocks_of_marks, has, rolled, with_block, written_since}
+use Rattle.era_model.specs.Marks.{BlockMarks, blocks_of_marks, rolled, with_block, written_since}
 use Rattle.era_model.specs.StreamLists.{IsWrittenSince}
-use Rattle.era_plan.specs.declared.task.Request.{Request}
-use Rattle.era_plan.specs.declared.task.Request.TheVariants.{Checkpoint, ListSince}
-use Rattle.era_plan.specs.declared.task.Task.{Task}
-use Rattle.era_plan.specs.declared.task.Task.TheVariants.{Write as WriteTask, Ask}
-use Rattle.era_plan.specs.declared.task.Write.{Write}
+use Rattle.era_model.specs.declared.command.Request.{Request}
+use Rattle.era_model.specs.declared.command.Request.TheVariants.{Checkpoint, List as ListRequest}
+use Rattle.era_model.specs.declared.command.Task.{Task}
+use Rattle.era_model.specs.declared.command.Task.TheVariants.{Write as WriteTask, Ask}
 use Rattle.era_top.specs.declared.outcome.Outcome.{Outcome}
 use Rattle.era_top.specs.declared.outcome.Outcome.TheVariants.{OutOfRange, Done, Cut, Moved, LastEra, Listed, NoMemory}
-use Rattle.era_top.specs.Runs.{commands_from, place_of_write, some_cut, IsJournalOf, ReadsAsJournal}
+use Rattle.era_top.specs.Runs.{commands_from, place_of_write, some_cut, IsJournalOf, ReadsAsJournal, Write}
 
 -- The write's sectors lie in a block, from a sector of it on.
-pub record IsPlaced (g : Geometry) (write : Write) (place : ℕ × ℕ) : Type 0 where
+pub record LiesInBlock (g : Geometry) (write : Write) (place : ℕ × ℕ) : Type 0 where
   pub found : place_of_write g write ≡ Some place
   pub block : place.0 < blocks_of g.sectors g.block_sectors
   pub sector : place.0 * g.block_sectors + place.1 ≡ write.sector
@@ -32,14 +33,14 @@ pub record IsPlaced (g : Geometry) (write : Write) (place : ℕ × ℕ) : Type 0
 -- The write lies in a block, and marks it exactly where the block has no mark of the era.
 pub record Marks (g : Geometry) (write : Write) (old new : BlockMarks) (marks : Bool) : Type 0 where
   pub place : ℕ × ℕ
-  pub placed : IsPlaced g write place
+  pub placed : LiesInBlock g write place
   pub was : has old.current place.0 ≡ not marks
   pub now : new ≡ with_block old place.0
   pub lasts : MarkGivesEra old place.0
   pub bounded : LastsAreBounded old
 
 -- What is on the disk after a write and a sync.
-pub record IsStored (write : Write) (old new : State) : Type 0 where
+pub record HoldsWrite (write : Write) (old new : State) : Type 0 where
   pub seen : new.seen ≡ splice old.seen (write.sector * 512) write.bytes
   pub clean : IsClean new
 
@@ -53,20 +54,20 @@ pub record TellsFault (before now told : ℕ) : Type 0 where
   pub rose : Rose before now
 
 -- How one write changed the marks, the disk's count of faults and, where the disk tells it, its state.
-abbrev pub Went : Geometry → Write → Bool → BlockMarks → BlockMarks → ℕ → ℕ → State → State → Outcome → Type 0
-Went g write tells marks marks' faults faults' disk disk' OutOfRange =
+abbrev pub WriteWent : Geometry → Write → Bool → BlockMarks → BlockMarks → ℕ → ℕ → State → State → Outcome → Type 0
+WriteWent g write tells marks marks' faults faults' disk disk' OutOfRange =
     (place_of_write g write ≡ None) × (marks' ≡ marks) × (faults' ≡ faults) × (tells ≡ true → disk' ≡ disk)
-Went g write tells marks marks' faults faults' disk disk' (Done first) =
-    Marks g write marks marks' first × (faults' ≡ faults) × (tells ≡ true → IsStored write disk disk')
-Went g write tells marks marks' faults faults' disk disk' (Cut first told) =
+WriteWent g write tells marks marks' faults faults' disk disk' (Done first) =
+    Marks g write marks marks' first × (faults' ≡ faults) × (tells ≡ true → HoldsWrite write disk disk')
+WriteWent g write tells marks marks' faults faults' disk disk' (Cut first told) =
     Marks g write marks marks' first × TellsFault faults faults' told × (tells ≡ true → IsTorn write disk disk')
-Went g write tells marks marks' faults faults' disk disk' outcome = ⊥
+WriteWent g write tells marks marks' faults faults' disk disk' outcome = ⊥
 
 -- How a checkpoint changed the marks: they moved to the next era, which the outcome tells, or the era is the last one and nothing changed.
 abbrev pub MovesEra : BlockMarks → BlockMarks → Outcome → Type 0
 MovesEra marks marks' (Moved era) =
-    (marks.era < 4294967295) × (era ≡ marks.era + 1) × (marks' ≡ rolled marks) × SwitchKeepsMarks marks
-MovesEra marks marks' LastEra = (marks.era ≡ 4294967295) × (marks' ≡ marks)
+    (marks.era < LAST_ERA) × (era ≡ marks.era + 1) × (marks' ≡ rolled marks) × SwitchKeepsMarks marks
+MovesEra marks marks' LastEra = (marks.era ≡ LAST_ERA) × (marks' ≡ marks)
 MovesEra marks marks' outcome = ⊥
 
 -- What a list since an era tells: exactly the blocks that the marks have since it, or that memory was refused.
@@ -75,17 +76,19 @@ TellsBlocks marks since (Listed blocks) = ListsExactly (blocks_of_marks marks) (
 TellsBlocks marks since NoMemory = Unit {0}
 TellsBlocks marks since outcome = ⊥
 
--- How a request went. A list changes no mark.
+-- How a request went. A list changes no mark. No other request is served.
 abbrev pub AnswersRequest : BlockMarks → BlockMarks → Request → Outcome → Type 0
 AnswersRequest marks marks' Checkpoint outcome = MovesEra marks marks' outcome
-AnswersRequest marks marks' (ListSince since) outcome = (marks' ≡ marks) × TellsBlocks marks since outcome
+AnswersRequest marks marks' (ListRequest since false) outcome = (marks' ≡ marks) × TellsBlocks marks since outcome
+AnswersRequest marks marks' request outcome = ⊥
 
--- How a task changed the marks, the disk's count of faults and, where the disk tells it, its state. A request leaves the disk alone.
+-- How a task changed the marks, the disk's count of faults and, where the disk tells it, its state. A request leaves the disk alone. No read is served.
 abbrev pub TaskWent : Geometry → Task → Bool → BlockMarks → BlockMarks → ℕ → ℕ → State → State → Outcome → Type 0
-TaskWent g (WriteTask write) tells marks marks' faults faults' disk disk' outcome =
-    Went g write tells marks marks' faults faults' disk disk' outcome
+TaskWent g (WriteTask sector bytes) tells marks marks' faults faults' disk disk' outcome =
+    WriteWent g (record { sector = sector; bytes = bytes }) tells marks marks' faults faults' disk disk' outcome
 TaskWent g (Ask request) tells marks marks' faults faults' disk disk' outcome =
     AnswersRequest marks marks' request outcome × (faults' ≡ faults) × (disk' ≡ disk)
+TaskWent g task tells marks marks' faults faults' disk disk' outcome = ⊥
 
 -- The last command was a write that was cut, and its outcome tells this count of faults.
 pub record EndInCut (outcomes : List Outcome) (count : ℕ) : Type 0 where

@@ -2,8 +2,9 @@
 use Rattle.std.specs.Prelude.{◌≡◌, ◌⊎◌, ℕ, ◌<◌, ◌≤◌, List, Option, Some}
 use Rattle.era_base.specs.Faults.{Rose}
 use Rattle.era_base.specs.Geometry.{IsBlockSize, blocks_of}
+use Rattle.era_base.specs.declared.limits.TheConstants.{MOST_BLOCKS}
 use Rattle.era_line.specs.declared.table_line.TableLine.{TableLine}
-use Rattle.era_plan.specs.declared.task.Task.{Task}
+use Rattle.era_model.specs.declared.command.Command.{Command}
 use Rattle.era_plan.specs.Grammar.{lines_of}
 use Rattle.era_plan.specs.Rounds.{SpellRound}
 use Rattle.era_top.specs.declared.status.Status.{Status}
@@ -45,9 +46,9 @@ pub record IsServable (words : List (List ℕ)) (sizes : List ℕ → Option ℕ
   pub serve : IsServe words line
   pub block_size : IsBlockSize line.block_sectors
   pub some : 0 < line.length
-  pub limited : blocks_of line.length line.block_sectors ≤ 65536
+  pub limited : blocks_of line.length line.block_sectors ≤ MOST_BLOCKS
   pub large_enough : (have : ℕ) → sizes line.origin ≡ Some have → line.length ≤ have
   pub text : List ℕ
   pub stream : left ≡ Some text
-  pub tasks : List Task
-  pub spelled : SpellRound (lines_of text) tasks
+  pub commands : List Command
+  pub spelled : SpellRound (lines_of text) commands

@@ -9,7 +9,6 @@ mod origin;
 mod outcome;
 mod part;
 mod parts;
-mod put;
 mod refusal;
 mod refuse;
 mod replies;

@@ -10,6 +10,7 @@ use crate::refuse::refuse;
 use crate::session_lines::give_last;
 use crate::status::Status;
 use era_base::{Geometry, Sink};
+use era_line::TextBuffer;
 
 /// Tells how many metadata blocks of 4,096 bytes an origin of `sectors` sectors in blocks of `block_sectors` sectors
 /// needs, or why these are no geometry.
@@ -21,6 +22,7 @@ pub fn tell_need<K: Sink>(sink: &mut K, sectors: u64, block_sectors: u64) -> Sta
 {
     match Geometry::new(sectors, block_sectors) {
         Ok(geometry) => give_last(
+            TextBuffer::new(),
             sink,
             &[
                 Text(b"need "),

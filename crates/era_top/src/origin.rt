@@ -2,6 +2,7 @@
 
 ghost use Rattle.std.specs.Prelude.{◌≡◌};
 ghost use Rattle.era_top.specs.Openings.{bay_refusal, OpensOrigin};
+ghost use Rattle.era_top.specs.Around.{disk_facts, bay_around};
 
 use crate::refusal::Refusal;
 use era_base::{Bay, BayError};
@@ -22,16 +23,7 @@ fn refusal_of<B: Bay>(bay: &B, error: BayError) -> Refusal
 /// Takes the origin of a table line, from its first sector on and as long as the line says.
 pub fn open_origin<B: Bay>(bay: &mut B, line: &TableLine) -> Result<B::D, Refusal>
     ensures { OpensOrigin
-        (record { place = B.D.place; sectors = B.D.sectors; history = B.D.history; faults = B.D.faults; tells = B.D.tells })
-        (record {
-          sizes = B.sizes bay.new;
-          reads = B.reads bay.old;
-          reads' = B.reads bay.new;
-          loans = B.loans bay.old;
-          loans' = B.loans bay.new;
-          faults = B.faults bay.old;
-          faults' = B.faults bay.new;
-        })
+        (disk_facts B.D.Disk) (bay_around B.Bay bay.old bay.new)
         line.now result }
 {
     let name = line.origin.as_str();

@@ -13,7 +13,7 @@ pub enum Outcome {
     Cut { marks: bool, faults: u64 },
     /// The checkpoint moved the session to this era.
     Moved { era: u32 },
-    /// The era is the last one, 4294967295, and the checkpoint left it.
+    /// The era is the last one, and the checkpoint left it.
     LastEra,
     /// The list names these blocks.
     Listed { blocks: Runs },

@@ -2,7 +2,8 @@
 
 ghost use Rattle.std.specs.Prelude.{◌≡◌, ◌+◌, ◌*◌, ◌<◌, ◌≤◌, ◌^◌, length};
 ghost use Rattle.era_base.specs.Faults.{HasCause};
-ghost use Rattle.era_base.specs.Streams.{GivesTo};
+ghost use Rattle.era_base.specs.declared.limits.TheConstants.{MOST_COMMANDS};
+ghost use Rattle.era_line.specs.TextBuffer.{Adds};
 ghost use Rattle.era_top.specs.Outcomes.{event_count, outcome_line, outcomes_text};
 
 use crate::block_list::give_runs;
@@ -11,15 +12,24 @@ use crate::outcome::Outcome;
 use crate::part::Part::{Number, Text};
 use crate::parts::give_parts;
 use era_base::{Failed, Runs, Sink};
+use era_line::TextBuffer;
 
 /// Gives the reply of a write that went through, with its events from a place on.
-fn give_done<K: Sink>(sink: &mut K, line: u64, place: u64, marks: bool) -> Result<(), Failed>
+fn give_done<K: Sink>(
+    text: &mut TextBuffer,
+    sink: &mut K,
+    line: u64,
+    place: u64,
+    marks: bool,
+) -> Result<(), Failed>
     requires { place + 4 < 2 ^ 64 }
-    ensures given { GivesTo (K.given sink.old) (K.given sink.new) (outcome_line line place (Outcome.Done marks)) result }
+    ensures added { Adds (K.given sink.old) text.old (K.given sink.new) text.new
+        (outcome_line line place (Outcome.Done marks)) result }
     ensures cause { HasCause (K.faults sink.old) (K.faults sink.new) result }
 {
     if marks {
         give_parts(
+            text,
             sink,
             &[
                 Number(line),
@@ -36,6 +46,7 @@ fn give_done<K: Sink>(sink: &mut K, line: u64, place: u64, marks: bool) -> Resul
         )
     } else {
         give_parts(
+            text,
             sink,
             &[
                 Number(line),
@@ -51,6 +62,7 @@ fn give_done<K: Sink>(sink: &mut K, line: u64, place: u64, marks: bool) -> Resul
 
 /// Gives the reply of a write that was cut, with its events from a place on.
 fn give_cut<K: Sink>(
+    text: &mut TextBuffer,
     sink: &mut K,
     line: u64,
     place: u64,
@@ -58,11 +70,13 @@ fn give_cut<K: Sink>(
     faults: u64,
 ) -> Result<(), Failed>
     requires { place + 4 < 2 ^ 64 }
-    ensures given { GivesTo (K.given sink.old) (K.given sink.new) (outcome_line line place (Outcome.Cut marks faults)) result }
+    ensures added { Adds (K.given sink.old) text.old (K.given sink.new) text.new
+        (outcome_line line place (Outcome.Cut marks faults)) result }
     ensures cause { HasCause (K.faults sink.old) (K.faults sink.new) result }
 {
     if marks {
         give_parts(
+            text,
             sink,
             &[
                 Number(line),
@@ -81,6 +95,7 @@ fn give_cut<K: Sink>(
         )
     } else {
         give_parts(
+            text,
             sink,
             &[
                 Number(line),
@@ -97,25 +112,40 @@ fn give_cut<K: Sink>(
 }
 
 /// Gives the reply of a list that names blocks, with its event at a place.
-fn give_list<K: Sink>(sink: &mut K, line: u64, place: u64, blocks: &Runs) -> Result<(), Failed>
-    ensures given { GivesTo (K.given sink.old) (K.given sink.new) (outcome_line line place (Outcome.Listed blocks.now)) result }
+fn give_list<K: Sink>(
+    text: &mut TextBuffer,
+    sink: &mut K,
+    line: u64,
+    place: u64,
+    blocks: &Runs,
+) -> Result<(), Failed>
+    ensures added { Adds (K.given sink.old) text.old (K.given sink.new) text.new
+        (outcome_line line place (Outcome.Listed blocks.now)) result }
     ensures cause { HasCause (K.faults sink.old) (K.faults sink.new) result }
 {
-    let Ok(()) = give_parts(sink, &[Number(line), Text(b" blocks ")]) else {
+    let Ok(()) = give_parts(text, sink, &[Number(line), Text(b" blocks ")]) else {
         return Err(Failed);
     };
-    let Ok(()) = give_runs(sink, blocks.as_slice()) else {
+    let Ok(()) = give_runs(text, sink, blocks.as_slice()) else {
         return Err(Failed);
     };
-    give_parts(sink, &[Text(b" l"), Number(place), Text(b"\n")])
+    give_parts(text, sink, &[Text(b" l"), Number(place), Text(b"\n")])
 }
 
 /// Gives the reply of a checkpoint that moved to an era, with its event at a place.
-fn give_era<K: Sink>(sink: &mut K, line: u64, place: u64, era: u32) -> Result<(), Failed>
-    ensures given { GivesTo (K.given sink.old) (K.given sink.new) (outcome_line line place (Outcome.Moved era)) result }
+fn give_era<K: Sink>(
+    text: &mut TextBuffer,
+    sink: &mut K,
+    line: u64,
+    place: u64,
+    era: u32,
+) -> Result<(), Failed>
+    ensures added { Adds (K.given sink.old) text.old (K.given sink.new) text.new
+        (outcome_line line place (Outcome.Moved era)) result }
     ensures cause { HasCause (K.faults sink.old) (K.faults sink.new) result }
 {
     give_parts(
+        text,
         sink,
         &[
             Number(line),
@@ -129,22 +159,31 @@ fn give_era<K: Sink>(sink: &mut K, line: u64, place: u64, era: u32) -> Result<()
 }
 
 /// Gives the reply of one command.
-fn give_reply<K: Sink>(sink: &mut K, line: u64, place: u64, outcome: &Outcome) -> Result<(), Failed>
+fn give_reply<K: Sink>(
+    text: &mut TextBuffer,
+    sink: &mut K,
+    line: u64,
+    place: u64,
+    outcome: &Outcome,
+) -> Result<(), Failed>
     requires { place + 4 < 2 ^ 64 }
-    ensures given { GivesTo (K.given sink.old) (K.given sink.new) (outcome_line line place outcome.now) result }
+    ensures added { Adds (K.given sink.old) text.old (K.given sink.new) text.new
+        (outcome_line line place outcome.now) result }
     ensures cause { HasCause (K.faults sink.old) (K.faults sink.new) result }
 {
     match outcome {
-        Outcome::OutOfRange => give_parts(sink, &[Number(line), Text(b" range\n")]),
-        Outcome::Done { marks } => give_done(sink, line, place, *marks),
-        Outcome::Cut { marks, faults } => give_cut(sink, line, place, *marks, *faults),
-        Outcome::Moved { era } => give_era(sink, line, place, *era),
+        Outcome::OutOfRange => give_parts(text, sink, &[Number(line), Text(b" range\n")]),
+        Outcome::Done { marks } => give_done(text, sink, line, place, *marks),
+        Outcome::Cut { marks, faults } => give_cut(text, sink, line, place, *marks, *faults),
+        Outcome::Moved { era } => give_era(text, sink, line, place, *era),
         Outcome::LastEra => give_parts(
+            text,
             sink,
             &[Number(line), Text(b" end f"), Number(place), Text(b"\n")],
         ),
-        Outcome::Listed { blocks } => give_list(sink, line, place, blocks),
+        Outcome::Listed { blocks } => give_list(text, sink, line, place, blocks),
         Outcome::NoMemory => give_parts(
+            text,
             sink,
             &[Number(line), Text(b" memory f"), Number(place), Text(b"\n")],
         ),
@@ -152,15 +191,20 @@ fn give_reply<K: Sink>(sink: &mut K, line: u64, place: u64, outcome: &Outcome) -
 }
 
 /// Gives the replies of all commands in order, the first of them for line 1 and with its events from place 0 on.
-pub fn give_replies<K: Sink>(sink: &mut K, outcomes: &[Outcome]) -> Result<(), Failed>
-    requires { length outcomes.now ≤ 4096 }
-    ensures given { GivesTo (K.given sink.old) (K.given sink.new) (outcomes_text 1 0 outcomes.now) result }
+pub fn give_replies<K: Sink>(
+    text: &mut TextBuffer,
+    sink: &mut K,
+    outcomes: &[Outcome],
+) -> Result<(), Failed>
+    requires { length outcomes.now ≤ MOST_COMMANDS }
+    ensures added { Adds (K.given sink.old) text.old (K.given sink.new) text.new
+        (outcomes_text 1 0 outcomes.now) result }
     ensures cause { HasCause (K.faults sink.old) (K.faults sink.new) result }
 {
     let mut line = 1;
     let mut place = 0;
     for outcome in outcomes {
-        let Ok(()) = give_reply(sink, line, place, outcome) else {
+        let Ok(()) = give_reply(text, sink, line, place, outcome) else {
             return Err(Failed);
         };
         line += 1;

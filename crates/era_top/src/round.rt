@@ -1,9 +1,10 @@
 //! One round of a session: its commands are run, and their replies are given.
 
 ghost use Rattle.std.specs.Prelude.{◌≡◌, ◌+◌, ◌*◌, ◌<◌, ◌≤◌, ℕ, List, Option, [], ◌++◌, length, true, vec_len, vec_capacity, IfOk};
-ghost use Rattle.era_model.specs.Marks.{no_marks};
-ghost use Rattle.era_plan.specs.Rounds.{IsWithinLimits};
 ghost use Rattle.era_base.specs.Faults.{Rose};
+ghost use Rattle.era_base.specs.declared.limits.TheConstants.{MOST_COMMANDS};
+ghost use Rattle.era_model.specs.Marks.{no_marks};
+ghost use Rattle.era_plan.specs.Rounds.{IsRound};
 ghost use Rattle.era_model.specs.Transcript.{ReadToEnd, stop_line, end_line};
 ghost use Rattle.era_top.specs.Outcomes.{outcomes_text, total_events};
 ghost use Rattle.era_top.specs.Runs.{some_cut, some_lack};
@@ -18,6 +19,7 @@ use crate::run::run;
 use crate::session_lines::{give_last, give_stop};
 use crate::status::Status;
 use era_base::{Disk, Geometry, Memory, Sink};
+use era_line::TextBuffer;
 use era_marks::SessionMarks;
 use era_plan::{CommandList, PlanError};
 use std::alloc::Global;
@@ -28,7 +30,8 @@ fn take_room(
     geometry: &Geometry,
     count: usize,
 ) -> Result<(SessionMarks, Vec<Outcome>), Memory>
-    ensures marks { IfOk result (λ room. room.0 ≡ no_marks geometry.now.sectors geometry.now.block_sectors 1) }
+    ensures marks { IfOk result (λ room. room.0
+        ≡ no_marks geometry.now.sectors geometry.now.block_sectors 1) }
     ensures outcomes { IfOk result (λ room. (room.1.items ≡ []) × (vec_capacity room.1 ≡ count)) }
 {
     let marks = SessionMarks::new(alloc, geometry, 1)?;
@@ -38,7 +41,7 @@ fn take_room(
 
 /// How many events commands had together.
 fn count_all_events(outcomes: &[Outcome]) -> u64
-    requires { length outcomes.now ≤ 4096 }
+    requires { length outcomes.now ≤ MOST_COMMANDS }
     ensures { result ≡ total_events outcomes.now }
 {
     outcomes.iter().map(|outcome| count_events(outcome)).sum()
@@ -73,18 +76,21 @@ fn status_of_round(outcomes: &[Outcome]) -> Status
 
 /// Gives the replies of a round and the last line of the session, which is in this era, and tells how it ended.
 fn give_round<K: Sink>(sink: &mut K, outcomes: &[Outcome], era: u32) -> Status
-    requires { length outcomes.now ≤ 4096 }
+    requires { length outcomes.now ≤ MOST_COMMANDS }
     ensures printed { Prints (K.given sink.old) (K.given sink.new)
-        (outcomes_text 1 0 outcomes.now ++ (stop_line ReadToEnd ++ end_line era (total_events outcomes.now)))
+        (outcomes_text 1 0 outcomes.now ++ (stop_line ReadToEnd
+        ++ end_line era (total_events outcomes.now)))
         (round_status outcomes.now) result }
     ensures rose { HasSinkCause (K.faults sink.old) (K.faults sink.new) result }
     ensures cut { result ≡ Status.Fault → some_cut outcomes.now ≡ true }
     ensures ends { result ≡ Status.Source → ⊥ }
 {
-    let Ok(()) = give_replies(sink, outcomes) else {
+    let mut text = TextBuffer::new();
+    let Ok(()) = give_replies(&mut text, sink, outcomes) else {
         return Status::Sink;
     };
     give_last(
+        text,
         sink,
         &[
             Text(b"end "),
@@ -106,7 +112,7 @@ pub fn serve_round<K: Sink, D: Disk>(
     sink: &mut K,
     disk: &mut D,
 ) -> Status
-    requires limits { IsWithinLimits commands.now }
+    requires round { IsRound commands.now }
     requires disk { D.sectors disk.old ≡ geometry.now.sectors }
     ensures goes { (contents : List ℕ) (left left' : Option (List ℕ)) (faults faults' : ℕ)
         → IsReadWhole left left' faults faults' commands.now

@@ -2,42 +2,47 @@
 
 ghost use Rattle.std.specs.Prelude.{◌≡◌, ◌*◌, ◌<◌, ◌≤◌, ℕ, List, [], length, vec_len, vec_capacity, All};
 ghost use Rattle.era_base.specs.Geometry.{blocks_of};
+ghost use Rattle.era_base.specs.declared.limits.TheConstants.{MOST_COMMANDS};
 ghost use Rattle.era_model.specs.Marks.{blocks_of_marks, no_marks};
 ghost use Rattle.era_model.specs.declared.history.Happening.{Happening as happening};
-ghost use Rattle.era_plan.specs.Grammar.{HasPayload, IsPayload};
-ghost use Rattle.era_top.specs.Steps.{AnswersRequest, HaveRun, MovesEra, TaskWent, TellsBlocks, Went};
+ghost use Rattle.era_plan.specs.Grammar.{IsPayload, IsServed};
+ghost use Rattle.era_top.specs.Runs.{tasks_of};
+ghost use Rattle.era_top.specs.Steps.{AnswersRequest, HaveRun, MovesEra, TaskWent, TellsBlocks, WriteWent};
 
 use crate::events::is_cut;
 use crate::outcome::Outcome;
-use crate::put::put;
-use era_base::{Disk, Geometry};
+use era_base::{Bytes, Disk, Geometry, LAST_ERA, write_synced};
 use era_marks::SessionMarks;
-use era_plan::{Request, Task, Write};
+use era_plan::{Command, Request, Task};
 use std::alloc::Global;
 
 /// Runs one write: it marks its block in memory, and writes and syncs its bytes. Out of range it does nothing.
 fn run_write<D: Disk>(
     geometry: &Geometry,
-    write: &Write,
+    sector: u64,
+    bytes: &Bytes,
     marks: &mut SessionMarks,
     disk: &mut D,
 ) -> Outcome
-    requires payload { IsPayload (length write.now.bytes) }
-    requires marks { blocks_of_marks marks.old ≡ blocks_of geometry.now.sectors geometry.now.block_sectors }
+    requires payload { IsPayload (length bytes.now) }
+    requires marks { blocks_of_marks marks.old
+        ≡ blocks_of geometry.now.sectors geometry.now.block_sectors }
     requires disk { D.sectors disk.old ≡ geometry.now.sectors }
-    ensures went { Went geometry.now write.now D.tells marks.old marks.new
-        (D.faults disk.old) (D.faults disk.new) (D.history disk.old).now (D.history disk.new).now result }
+    ensures went { WriteWent geometry.now (record { sector = sector; bytes = bytes.now }) D.tells
+        marks.old marks.new
+        (D.faults disk.old) (D.faults disk.new) (D.history disk.old).now
+        (D.history disk.new).now result }
     ensures size { D.sectors disk.new ≡ D.sectors disk.old }
     ensures place { D.place disk.new ≡ D.place disk.old }
     ensures marks { blocks_of_marks marks.new ≡ blocks_of_marks marks.old }
 {
-    let bytes = write.bytes.as_slice();
-    let Some((block, _)) = geometry.place_of(write.sector, (bytes.len() / 512) as u64) else {
+    let bytes = bytes.as_slice();
+    let Some((block, _)) = geometry.place_of(sector, (bytes.len() / 512) as u64) else {
         return Outcome::OutOfRange;
     };
     let first = !marks.is_marked(block);
     marks.mark(block);
-    match put(disk, write.sector, bytes) {
+    match write_synced(disk, sector, bytes) {
         Ok(()) => Outcome::Done { marks: first },
         Err(faults) => Outcome::Cut {
             marks: first,
@@ -51,7 +56,7 @@ fn run_checkpoint(marks: &mut SessionMarks) -> Outcome
     ensures moved { MovesEra marks.old marks.new result }
     ensures marks { blocks_of_marks marks.new ≡ blocks_of_marks marks.old }
 {
-    if marks.era() == u32::MAX {
+    if marks.era() == LAST_ERA {
         return Outcome::LastEra;
     }
     marks.roll();
@@ -70,16 +75,18 @@ fn run_list(alloc: Global, marks: &SessionMarks, since: u32) -> Outcome
 
 /// Does what a command asks of the marks.
 fn run_request(alloc: Global, request: Request, marks: &mut SessionMarks) -> Outcome
+    requires { IsServed (Task.Ask request) }
     ensures answered { AnswersRequest marks.old marks.new request result }
     ensures marks { blocks_of_marks marks.new ≡ blocks_of_marks marks.old }
 {
     match request {
         Request::Checkpoint => run_checkpoint(marks),
-        Request::ListSince(since) => run_list(alloc, marks, since),
+        Request::List { since, snap: false } => run_list(alloc, marks, since),
+        _ => unreachable!(),
     }
 }
 
-/// Runs one command.
+/// Does what a command is to do.
 fn run_task<D: Disk>(
     alloc: Global,
     geometry: &Geometry,
@@ -87,17 +94,20 @@ fn run_task<D: Disk>(
     marks: &mut SessionMarks,
     disk: &mut D,
 ) -> Outcome
-    requires payload { HasPayload task.now }
-    requires marks { blocks_of_marks marks.old ≡ blocks_of geometry.now.sectors geometry.now.block_sectors }
+    requires served { IsServed task.now }
+    requires marks { blocks_of_marks marks.old
+        ≡ blocks_of geometry.now.sectors geometry.now.block_sectors }
     requires disk { D.sectors disk.old ≡ geometry.now.sectors }
     ensures went { TaskWent geometry.now task.now D.tells marks.old marks.new
-        (D.faults disk.old) (D.faults disk.new) (D.history disk.old).now (D.history disk.new).now result }
+        (D.faults disk.old) (D.faults disk.new) (D.history disk.old).now
+        (D.history disk.new).now result }
     ensures size { D.sectors disk.new ≡ D.sectors disk.old }
     ensures place { D.place disk.new ≡ D.place disk.old }
     ensures marks { blocks_of_marks marks.new ≡ blocks_of_marks marks.old }
 {
     match task {
-        Task::Write(write) => run_write(geometry, write, marks, disk),
+        Task::Write { sector, bytes } => run_write(geometry, *sector, bytes, marks, disk),
+        Task::Read { .. } => unreachable!(),
         Task::Ask(request) => run_request(alloc, *request, marks),
     }
 }
@@ -107,25 +117,27 @@ fn run_task<D: Disk>(
 pub fn run<D: Disk>(
     alloc: Global,
     geometry: &Geometry,
-    tasks: &[Task],
+    commands: &[Command],
     marks: &mut SessionMarks,
     outcomes: &mut Vec<Outcome>,
     disk: &mut D,
 )
-    requires few { length tasks.now ≤ 4096 }
-    requires payloads { All HasPayload tasks.now }
+    requires few { length commands.now ≤ MOST_COMMANDS }
+    requires served { All (λ command. IsServed command.task) commands.now }
     requires marks { marks.old ≡ no_marks geometry.now.sectors geometry.now.block_sectors 1 }
     requires none { outcomes.old.items ≡ [] }
-    requires room { length tasks.now ≤ vec_capacity outcomes.old }
+    requires room { length commands.now ≤ vec_capacity outcomes.old }
     requires disk { D.sectors disk.old ≡ geometry.now.sectors }
     ensures run { (contents : List ℕ) → (journal : List happening)
-        × HaveRun geometry.now contents tasks.now outcomes.new.items D.tells marks.new.era
-        (D.faults disk.old) (D.faults disk.new) (D.history disk.old).now (D.history disk.new).now journal }
+        × HaveRun geometry.now contents (tasks_of commands.now) outcomes.new.items D.tells
+        marks.new.era
+        (D.faults disk.old) (D.faults disk.new) (D.history disk.old).now
+        (D.history disk.new).now journal }
     ensures size { D.sectors disk.new ≡ D.sectors disk.old }
     ensures place { D.place disk.new ≡ D.place disk.old }
 {
-    for task in tasks {
-        let outcome = run_task(alloc, geometry, task, marks, disk);
+    for command in commands {
+        let outcome = run_task(alloc, geometry, &command.task, marks, disk);
         let cut = is_cut(&outcome);
         outcomes.push_reserved(outcome);
         if cut {

@@ -33,7 +33,8 @@ pub fn serve<S: Source, K: Sink, D: Disk>(
           disk' = (D.history disk.new).now;
         })
         (K.given sink.old) (K.given sink.new) result }
-    ensures rose { HasRiseFor result (S.faults source.old) (S.faults source.new) (K.faults sink.old) (K.faults sink.new)
+    ensures rose { HasRiseFor result (S.faults source.old) (S.faults source.new)
+        (K.faults sink.old) (K.faults sink.new)
         (D.faults disk.old) (D.faults disk.new) }
     ensures sink { HasSinkCause (K.faults sink.old) (K.faults sink.new) result }
     ensures size { D.sectors disk.new ≡ D.sectors disk.old }

@@ -3,8 +3,8 @@
 ghost use Rattle.std.specs.Prelude.{◌≡◌, ◌⊎◌, ℕ, List, [], ◌∷◌, ◌++◌};
 ghost use Rattle.era_base.specs.Bay.{Loan, new_loan, KeepsSizes};
 ghost use Rattle.era_base.specs.Faults.{Rose};
-ghost use Rattle.era_top.specs.Around.{SomeCountRose, AllReturned, IsFaultless};
-ghost use Rattle.era_top.specs.Openings.{Opens, HasServed};
+ghost use Rattle.era_top.specs.Around.{SomeCountRose, AllReturned, IsFaultless, disk_facts, bay_around, streams_around};
+ghost use Rattle.era_top.specs.Openings.{OpensAsAsked, HasServed};
 ghost use Rattle.era_top.specs.Reports.{Reports};
 ghost use Rattle.era_top.specs.Rises.{HasSinkCause};
 ghost use Rattle.era_top.specs.Top.{EndsAs, EndsBySink, IsNumber, IsServable};
@@ -28,17 +28,8 @@ use std::thread::Threads;
 /// Opens the origin that the words name, which are no need command.
 fn open<B: Bay>(alloc: Global, words: &[String], bay: &mut B) -> Result<(Geometry, B::D), Refusal>
     requires { IsNoNeed (texts_of words.now) }
-    ensures { Opens (texts_of words.now)
-        (record { place = B.D.place; sectors = B.D.sectors; history = B.D.history; faults = B.D.faults; tells = B.D.tells })
-        (record {
-          sizes = B.sizes bay.new;
-          reads = B.reads bay.old;
-          reads' = B.reads bay.new;
-          loans = B.loans bay.old;
-          loans' = B.loans bay.new;
-          faults = B.faults bay.old;
-          faults' = B.faults bay.new;
-        })
+    ensures { OpensAsAsked (texts_of words.now)
+        (disk_facts B.D.Disk) (bay_around B.Bay bay.old bay.new)
         result }
 {
     let line = match read_words(alloc, words) {
@@ -72,28 +63,11 @@ fn serve_lent<S: Source, K: Sink, B: Bay>(
 ) -> Status
     requires size { B.D.sectors disk ≡ geometry.now.sectors }
     requires lent { (before : List (Loan B.D)) × (B.loans bay.old ≡ before ++ new_loan disk ∷ []) }
-    ensures served { (contents : List ℕ) (before : List (Loan B.D)) → B.loans bay.old ≡ before ++ new_loan disk ∷ []
+    ensures served { (contents : List ℕ) (before : List (Loan B.D))
+        → B.loans bay.old ≡ before ++ new_loan disk ∷ []
         → HasServed geometry.now contents
-        (record { place = B.D.place; sectors = B.D.sectors; history = B.D.history; faults = B.D.faults; tells = B.D.tells })
-        (record {
-          sizes = B.sizes bay.new;
-          reads = B.reads bay.old;
-          reads' = B.reads bay.new;
-          loans = B.loans bay.old;
-          loans' = B.loans bay.new;
-          faults = B.faults bay.old;
-          faults' = B.faults bay.new;
-        })
-        (record {
-          left = S.left source.old;
-          left' = S.left source.new;
-          source_faults = S.faults source.old;
-          source_faults' = S.faults source.new;
-          given = K.given sink.old;
-          given' = K.given sink.new;
-          sink_faults = K.faults sink.old;
-          sink_faults' = K.faults sink.new;
-        })
+        (disk_facts B.D.Disk) (bay_around B.Bay bay.old bay.new)
+        (streams_around S.Source K.Sink source.old source.new sink.old sink.new)
         before disk result }
     ensures sizes { KeepsSizes (B.sizes bay.old) (B.sizes bay.new) }
     ensures sink { HasSinkCause (K.faults sink.old) (K.faults sink.new) result }
@@ -113,50 +87,14 @@ fn run_serve<S: Source, K: Sink, B: Bay>(
 ) -> Status
     requires { IsNoNeed (texts_of words.now) }
     ensures single_lane_session { (contents : List ℕ) → Reports (texts_of words.now) contents
-        (record { place = B.D.place; sectors = B.D.sectors; history = B.D.history; faults = B.D.faults; tells = B.D.tells })
-        (record {
-          sizes = B.sizes bay.new;
-          reads = B.reads bay.old;
-          reads' = B.reads bay.new;
-          loans = B.loans bay.old;
-          loans' = B.loans bay.new;
-          faults = B.faults bay.old;
-          faults' = B.faults bay.new;
-        })
-        (record {
-          left = S.left source.old;
-          left' = S.left source.new;
-          source_faults = S.faults source.old;
-          source_faults' = S.faults source.new;
-          given = K.given sink.old;
-          given' = K.given sink.new;
-          sink_faults = K.faults sink.old;
-          sink_faults' = K.faults sink.new;
-        })
+        (disk_facts B.D.Disk) (bay_around B.Bay bay.old bay.new)
+        (streams_around S.Source K.Sink source.old source.new sink.old sink.new)
         result }
     ensures fault { result ≡ Status.Fault → SomeCountRose
-        (record { place = B.D.place; sectors = B.D.sectors; history = B.D.history; faults = B.D.faults; tells = B.D.tells })
-        (record {
-          sizes = B.sizes bay.new;
-          reads = B.reads bay.old;
-          reads' = B.reads bay.new;
-          loans = B.loans bay.old;
-          loans' = B.loans bay.new;
-          faults = B.faults bay.old;
-          faults' = B.faults bay.new;
-        }) }
+        (disk_facts B.D.Disk) (bay_around B.Bay bay.old bay.new) }
     ensures source { result ≡ Status.Source → Rose (S.faults source.old) (S.faults source.new) }
     ensures sink { HasSinkCause (K.faults sink.old) (K.faults sink.new) result }
-    ensures returned { AllReturned
-        (record {
-          sizes = B.sizes bay.new;
-          reads = B.reads bay.old;
-          reads' = B.reads bay.new;
-          loans = B.loans bay.old;
-          loans' = B.loans bay.new;
-          faults = B.faults bay.old;
-          faults' = B.faults bay.new;
-        }) }
+    ensures returned { AllReturned (bay_around B.Bay bay.old bay.new) }
 {
     match open(alloc, words, bay) {
         Ok((geometry, disk)) => serve_lent(alloc, &geometry, disk, source, sink, bay),
@@ -173,51 +111,16 @@ pub fn run_words<S: Source, K: Sink, B: Bay>(
     bay: &mut B,
 ) -> Status
     ensures single_lane_session { (contents : List ℕ) → Reports (texts_of words.now) contents
-        (record { place = B.D.place; sectors = B.D.sectors; history = B.D.history; faults = B.D.faults; tells = B.D.tells })
-        (record {
-          sizes = B.sizes bay.new;
-          reads = B.reads bay.old;
-          reads' = B.reads bay.new;
-          loans = B.loans bay.old;
-          loans' = B.loans bay.new;
-          faults = B.faults bay.old;
-          faults' = B.faults bay.new;
-        })
-        (record {
-          left = S.left source.old;
-          left' = S.left source.new;
-          source_faults = S.faults source.old;
-          source_faults' = S.faults source.new;
-          given = K.given sink.old;
-          given' = K.given sink.new;
-          sink_faults = K.faults sink.old;
-          sink_faults' = K.faults sink.new;
-        })
+        (disk_facts B.D.Disk) (bay_around B.Bay bay.old bay.new)
+        (streams_around S.Source K.Sink source.old source.new sink.old sink.new)
         result }
     ensures fault { result ≡ Status.Fault → SomeCountRose
-        (record { place = B.D.place; sectors = B.D.sectors; history = B.D.history; faults = B.D.faults; tells = B.D.tells })
-        (record {
-          sizes = B.sizes bay.new;
-          reads = B.reads bay.old;
-          reads' = B.reads bay.new;
-          loans = B.loans bay.old;
-          loans' = B.loans bay.new;
-          faults = B.faults bay.old;
-          faults' = B.faults bay.new;
-        }) }
+        (disk_facts B.D.Disk) (bay_around B.Bay bay.old bay.new) }
     ensures source { result ≡ Status.Source → Rose (S.faults source.old) (S.faults source.new) }
     ensures sink { HasSinkCause (K.faults sink.old) (K.faults sink.new) result }
-    ensures returned { AllReturned
-        (record {
-          sizes = B.sizes bay.new;
-          reads = B.reads bay.old;
-          reads' = B.reads bay.new;
-          loans = B.loans bay.old;
-          loans' = B.loans bay.new;
-          faults = B.faults bay.old;
-          faults' = B.faults bay.new;
-        }) }
-    ensures need { (geometry : geometry_numbers) → IsNeed (texts_of words.now) geometry.sectors geometry.block_sectors
+    ensures returned { AllReturned (bay_around B.Bay bay.old bay.new) }
+    ensures need { (geometry : geometry_numbers)
+        → IsNeed (texts_of words.now) geometry.sectors geometry.block_sectors
         → (result ≡ Status.Done) ⊎ (result ≡ Status.Sink) }
 {
     match read_need(words) {
@@ -237,74 +140,20 @@ pub fn era_top<R: Threads + Wait + Sync, S: Source, K: Sink, B: Bay, P: Pace + S
     pace: &P,
 ) -> u8
     ensures single_lane_session { (contents : List ℕ) → EndsAs (texts_of words.now) contents
-        (record { place = B.D.place; sectors = B.D.sectors; history = B.D.history; faults = B.D.faults; tells = B.D.tells })
-        (record {
-          sizes = B.sizes bay.new;
-          reads = B.reads bay.old;
-          reads' = B.reads bay.new;
-          loans = B.loans bay.old;
-          loans' = B.loans bay.new;
-          faults = B.faults bay.old;
-          faults' = B.faults bay.new;
-        })
-        (record {
-          left = S.left source.old;
-          left' = S.left source.new;
-          source_faults = S.faults source.old;
-          source_faults' = S.faults source.new;
-          given = K.given sink.old;
-          given' = K.given sink.new;
-          sink_faults = K.faults sink.old;
-          sink_faults' = K.faults sink.new;
-        })
+        (disk_facts B.D.Disk) (bay_around B.Bay bay.old bay.new)
+        (streams_around S.Source K.Sink source.old source.new sink.old sink.new)
         result }
     ensures number { IsNumber result }
     ensures fault { result ≡ 4 → SomeCountRose
-        (record { place = B.D.place; sectors = B.D.sectors; history = B.D.history; faults = B.D.faults; tells = B.D.tells })
-        (record {
-          sizes = B.sizes bay.new;
-          reads = B.reads bay.old;
-          reads' = B.reads bay.new;
-          loans = B.loans bay.old;
-          loans' = B.loans bay.new;
-          faults = B.faults bay.old;
-          faults' = B.faults bay.new;
-        }) }
+        (disk_facts B.D.Disk) (bay_around B.Bay bay.old bay.new) }
     ensures source { result ≡ 7 → Rose (S.faults source.old) (S.faults source.new) }
     ensures sink { EndsBySink (K.faults sink.old) (K.faults sink.new) result }
-    ensures returned { AllReturned
-        (record {
-          sizes = B.sizes bay.new;
-          reads = B.reads bay.old;
-          reads' = B.reads bay.new;
-          loans = B.loans bay.old;
-          loans' = B.loans bay.new;
-          faults = B.faults bay.old;
-          faults' = B.faults bay.new;
-        }) }
+    ensures returned { AllReturned (bay_around B.Bay bay.old bay.new) }
     ensures exact { EndsExactly (texts_of words.now) (B.sizes bay.new) result }
     ensures faultless { IsServable (texts_of words.now) (B.sizes bay.new) (S.left source.old)
         → IsFaultless
-        (record { place = B.D.place; sectors = B.D.sectors; history = B.D.history; faults = B.D.faults; tells = B.D.tells })
-        (record {
-          sizes = B.sizes bay.new;
-          reads = B.reads bay.old;
-          reads' = B.reads bay.new;
-          loans = B.loans bay.old;
-          loans' = B.loans bay.new;
-          faults = B.faults bay.old;
-          faults' = B.faults bay.new;
-        })
-        (record {
-          left = S.left source.old;
-          left' = S.left source.new;
-          source_faults = S.faults source.old;
-          source_faults' = S.faults source.new;
-          given = K.given sink.old;
-          given' = K.given sink.new;
-          sink_faults = K.faults sink.old;
-          sink_faults' = K.faults sink.new;
-        })
+        (disk_facts B.D.Disk) (bay_around B.Bay bay.old bay.new)
+        (streams_around S.Source K.Sink source.old source.new sink.old sink.new)
         → (result ≡ 0) ⊎ (result ≡ 5) }
 {
     let _ = rt;

@@ -44,7 +44,7 @@ pub fn read_need(words: &[String]) -> Option<(u64, u64)>
     if command.as_str() != "need" {
         return None;
     }
-    let sectors = read_decimal(sectors.as_str())?;
-    let block_sectors = read_decimal(block_sectors.as_str())?;
+    let sectors = read_decimal(sectors.as_bytes())?;
+    let block_sectors = read_decimal(block_sectors.as_bytes())?;
     Some((sectors, block_sectors))
 }

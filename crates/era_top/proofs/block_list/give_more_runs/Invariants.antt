@@ -1,9 +1,9 @@
 use Rattle.std.proofs.Common.{◌≡◌}
-use Rattle.era_top.proofs.Gives.{RunsStand}
+use Rattle.era_top.proofs.Gives.{HasAdded, RunsStand}
 use Rattle.era_top.proofs.block_list.give_more_runs.Given as goal
 
--- the runs so far stand at the sink, and with those that are left they are all
+-- the runs so far were added, and with those that are left they are all
 abbrev pub invariant-loop-run : goal.invariant-loop-run
 invariant-loop-run g l =
-    RunsStand l.runs l.run-index (g.K.Sink.given l.initial.sink) (g.K.Sink.given l.sink)
+    RunsStand l.runs l.run-index (HasAdded (g.K.Sink.given l.initial.sink) l.initial.text (g.K.Sink.given l.sink) l.text)
     × (g.K.Sink.faults l.sink ≡ g.K.Sink.faults l.initial.sink)

@@ -4,6 +4,7 @@ use Rattle.era_top.specs.declared.refusal.Refusal.TheVariants.{NoGeometry}
 use Rattle.era_top.specs.declared.status.Status.TheVariants.{Done, Refused}
 use Rattle.era_top.specs.Reports.{Needs, Refuses}
 use Rattle.era_top.proofs.Causes.{is_no_geometry}
+use Rattle.era_top.proofs.Gives.{prints-fresh}
 use Rattle.era_top.proofs.RefusalTexts.{need-parts}
 use Rattle.era_top.proofs.need.tell_need.Goals as goal
 
@@ -23,7 +24,8 @@ returns-in-Ok-clause-told g c =
           c.need.ensures ∙ ap (λ n. need_of (blocks_of n c.in-Ok.geometry.block_sectors)) same.0 ∙ ap (λ n. need_of (blocks_of c.args.sectors n)) same.1,
         ),
       );
-      printed = rw (need-parts c.need.result) (rw c.from.ensures at c.give_last.ensures.printed);
+      printed = rw (need-parts c.need.result)
+          (rw c.from.ensures at (prints-fresh (g.K.Sink.given c.args.sink.now) (g.K.Sink.given c.give_last.new.sink) c.new-in-Ok.result _ _ _ c.new-in-Ok.ensures c.give_last.ensures.printed));
     }
 
 -- they are none

@@ -1,27 +1,30 @@
-use Rattle.std.proofs.Common.{◌++◌, take, ap, sym, ◌∙◌, subst, append_assoc}
-use Rattle.std.specs.Prelude.{Some}
-use Rattle.era_base.specs.Streams.{GivesFront}
+use Rattle.std.proofs.Common.{[], ◌++◌, take, refl, ap, sym, ◌∙◌, subst}
+use Rattle.std.proofs.lemmas.List.{append-nil}
+use Rattle.era_line.specs.TextBuffer.{Gathers}
 use Rattle.era_top.specs.Parts.{parts_text}
-use Rattle.era_top.proofs.Gives.{gives_front-within, parts_text-split, parts_text-more}
+use Rattle.era_top.proofs.Gives.{HasAdded, HasCut, added-then, cut-then, parts_text-split, parts_text-more}
 use Rattle.era_top.proofs.parts.give_parts.Goals as goal
 
--- a part was refused: a front of all the parts stands at the sink
-pub returns-in_default-clause-given : goal.returns-in_default-clause-given
-returns-in_default-clause-given g c = λ before is.
-    let parts = c.args.parts.now in
-    let done = parts_text (take c.loop-part.part-index parts) in
-    let front = c.in_default.ensures.given (before ++ done) (c.loop-part.invariant.0 before is) in
-    subst (λ bytes. GivesFront before bytes (g.K.Sink.given c.give_part.new.sink))
-    (sym (parts_text-split parts c.loop-part.part-index _ c.loop-part-test.true))
-    (gives_front-within before done _ _ _ front)
+-- none was added at first
+pub loop-part-init : goal.loop-part-init
+loop-part-init g c = (
+  λ before text is. subst (λ all. Gathers before all (g.K.Sink.given c.args.sink.now) c.args.text.now) (sym (append-nil text)) is,
+  refl,
+)
 
--- one part more stands at the sink
+-- the sink failed at a part
+pub returns-in_default-clause-added : goal.returns-in_default-clause-added
+returns-in_default-clause-added g c =
+    let parts = c.args.parts.now in
+    subst (HasCut (g.K.Sink.given c.args.sink.now) c.args.text.now (g.K.Sink.given c.give_part.new.sink))
+    (sym (parts_text-split parts c.loop-part.part-index _ c.loop-part-test.true))
+    (cut-then _ _ _ _ _ (parts_text (take c.loop-part.part-index parts)) _ _ c.loop-part.invariant.0 c.in_default.ensures.added)
+
+-- one part more was added
 pub loop-part-preserved : goal.loop-part-preserved
 loop-part-preserved g c = (
-  (λ before is.
-      let parts = c.args.parts.now in
-      let done = parts_text (take c.loop-part.part-index parts) in
-      c.in-Ok.ensures.given (before ++ done) (c.loop-part.invariant.0 before is)
-      ∙ ap (λ bytes. Some bytes) (append_assoc before done _ ∙ ap (λ bytes. before ++ bytes) (sym (parts_text-more parts c.loop-part.part-index _ c.loop-part-test.true)))),
+  subst (HasAdded (g.K.Sink.given c.args.sink.now) c.args.text.now (g.K.Sink.given c.give_part.new.sink) c.give_part.new.text)
+      (sym (parts_text-more c.args.parts.now c.loop-part.part-index _ c.loop-part-test.true))
+      (added-then _ _ _ _ _ _ (parts_text (take c.loop-part.part-index c.args.parts.now)) _ c.loop-part.invariant.0 c.in-Ok.ensures.added),
   c.in-Ok.ensures.cause.kept ∙ c.loop-part.invariant.1,
 )

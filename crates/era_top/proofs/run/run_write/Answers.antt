@@ -1,9 +1,19 @@
-use Rattle.std.proofs.Common.{◌≡◌, Bool, true, false, not, refl, sym, ◌∙◌}
+use Rattle.std.proofs.Common.{◌≡◌, ℕ, ◌+◌, ◌*◌, Bool, true, false, not, List, length, Err, refl, sym, ◌∙◌, subst, inl, inr}
+use Rattle.era_base.specs.Calls.{WritesThenSyncs}
+use Rattle.era_base.specs.CrashModel.{History, SameBut}
 use Rattle.era_top.proofs.run.run_write.Goals as goal
 
 not_not : (b : Bool) → not (not b) ≡ b
 not_not true = refl
 not_not false = refl
+
+-- a write or its sync failed: outside of its sectors nothing has changed
+torn : (first : ℕ) (bytes : List ℕ) (faults : ℕ) (old new : History) → WritesThenSyncs {T = Unit {0}} {E = ℕ} first bytes (Err faults) old new
+    → SameBut (first * 512) (first * 512 + length bytes) old.now new.now
+torn first bytes faults old new told = elim told [
+  | inl failed ↦ failed.outcome
+  | inr both ↦ subst (SameBut (first * 512) (first * 512 + length bytes) old.now) (sym both.synced.outcome) both.wrote.same
+]
 
 -- the write is on the disk
 pub returns-in-Ok-clause-went : goal.returns-in-Ok-clause-went
@@ -22,8 +32,10 @@ returns-in-Ok-clause-went g c = (
     lasts = c.mark.ensures.lasts;
     bounded = c.is_marked-first.ensures.lasts;
   },
-  c.in-Ok.ensures.kept,
-  (λ tells. record { seen = rw (← c.as_slice-bytes.ensures) (c.in-Ok.ensures.told tells).0; clean = (c.in-Ok.ensures.told tells).1 }),
+  c.in-Ok.ensures.cause.cause.kept,
+  (λ tells.
+      let told = c.in-Ok.ensures.told tells in
+      record { seen = rw (← c.as_slice-bytes.ensures) (told.synced.outcome.seen ∙ told.wrote.seen); clean = told.synced.outcome.clean }),
 )
 
 -- the disk failed
@@ -43,6 +55,6 @@ returns-in-Err-clause-went g c = (
     lasts = c.mark.ensures.lasts;
     bounded = c.is_marked-first.ensures.lasts;
   },
-  record { told_now = c.in-Err.ensures.fault.0; rose = rw (← c.in-Err.ensures.fault.0) c.in-Err.ensures.fault.1 },
-  (λ tells. rw (← c.as_slice-bytes.ensures) (c.in-Err.ensures.told tells)),
+  record { told_now = c.in-Err.ensures.cause.count; rose = c.in-Err.ensures.cause.cause.failed },
+  (λ tells. rw (← c.as_slice-bytes.ensures) (torn _ _ c.in-Err.faults _ _ (c.in-Err.ensures.told tells))),
 )

@@ -13,8 +13,8 @@ returns-clause-some c =
       three = texts_of-three c.args.words.now c.command-item.result c.sectors-item.result c.block_sectors-item.result c.in-len3.len_at_least c.in-len3.len_below
           c.command-item.is c.sectors-item.is c.block_sectors-item.is
           ∙ ap (λ text. text ∷ second ∷ third ∷ []) (sym c.as_str.ensures.value ∙ first)
-          ∙ ap (λ text. codes "need" ∷ text ∷ third ∷ []) (sym c.as_str-2.ensures.value ∙ c.in_ok-sectors.ensures.some)
-          ∙ ap (λ text. codes "need" ∷ decimal c.in_ok-sectors.sectors ∷ text ∷ []) (sym c.as_str-3.ensures.value ∙ c.in_ok-block_sectors.ensures.some);
+          ∙ ap (λ text. codes "need" ∷ text ∷ third ∷ []) (sym c.as_bytes.ensures.value ∙ c.in_ok-sectors.ensures.some)
+          ∙ ap (λ text. codes "need" ∷ decimal c.in_ok-sectors.sectors ∷ text ∷ []) (sym c.as_bytes-2.ensures.value ∙ c.in_ok-block_sectors.ensures.some);
       sectors_fit = search rules;
       block_fits = search rules;
     }
