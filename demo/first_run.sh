@@ -4,6 +4,10 @@
 # The status is 0 only where the answers and the image are the expected ones.
 set -u
 top=$(dirname "$(dirname "$(readlink -f "$0")")")
+
+# builds it, or says in one line what that needs
+"$top/eractl" need 512 8 > /dev/null || exit
+
 folder=$(mktemp -d) || exit 1
 trap 'rm -rf "$folder"' EXIT
 cd "$folder" || exit 1

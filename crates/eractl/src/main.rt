@@ -1,6 +1,8 @@
 //! The program: one command over image files and the standard streams. Standard output holds only what the command
-//! answers; why a file or a stream failed first stands on standard error.
+//! answers; standard error says in words what an answer means, and why a file or a stream failed first.
 #![tactic(auto)]
+
+mod explain;
 
 ghost use Rattle.std.specs.Prelude.{◌≡◌, ◌≢◌, ◌⊎◌, ℕ, List, ◌++◌, Some};
 ghost use Rattle.era_base.specs.Streams.{GivesFront};
@@ -9,6 +11,7 @@ ghost use Rattle.era_top.specs.Top.{EndsBySink};
 use era_base::Sink;
 use era_disks::{FileBay, FreePace, StdSink, StdSource};
 use era_top::era_top;
+use explain::words_for;
 use std::process::ExitCode;
 use std::{env, io};
 
@@ -41,8 +44,11 @@ fn main(rt: HostRuntime) -> ExitCode {
         Err(NoWords::Usage) => answer(&mut sink, "refused Usage\n", 2),
         Err(NoWords::Memory) => answer(&mut sink, "memory\n", 5),
     };
+    if let Some(words) = words_for(status, sink.lines()) {
+        let _ = eprintln!(rt; "eractl: {words}");
+    }
     if let Some((name, reason)) = bay.first_failure() {
-        let _ = eprintln!(rt; "{}: {reason}", name.as_str());
+        let _ = eprintln!(rt; "eractl: {}: {reason}", name.as_str());
     }
     tell(&rt, "standard input", source.first_failure());
     tell(&rt, "standard output", sink.first_failure());
@@ -81,6 +87,6 @@ fn answer<K: Sink>(sink: &mut K, text: &str, status: u8) -> u8
 /// One line on standard error where a stream has failed.
 fn tell<R: Eprint>(rt: &R, name: &str, failure: Option<io::Error>) {
     if let Some(reason) = failure {
-        let _ = eprintln!(rt; "{name}: {reason}");
+        let _ = eprintln!(rt; "eractl: {name}: {reason}");
     }
 }
