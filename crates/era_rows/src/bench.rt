@@ -11,11 +11,12 @@ use std::thread::Threads;
 /// The table line of most rows: 512 sectors in blocks of 8.
 pub const TABLE: &str = "0 512 era meta origin 8";
 
-/// What a run left behind.
+/// What a run left behind, and how often the sink was given something.
 #[derive(Drop)]
 pub struct Ran {
     pub status: u8,
     pub text: Bytes,
+    pub gives: u64,
     pub origin: Bytes,
 }
 
@@ -67,6 +68,7 @@ pub fn run_over<R: Threads + Wait + Sync>(
     Ok(Ran {
         status,
         text: Bytes::from_slice(alloc, sink.given())?,
+        gives: sink.gives(),
         origin,
     })
 }

@@ -12,6 +12,8 @@ mod lists;
 #[cfg(test)]
 mod needs;
 #[cfg(test)]
+mod pieces;
+#[cfg(test)]
 mod refusals;
 #[cfg(test)]
 mod streams;

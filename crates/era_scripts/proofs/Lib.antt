@@ -1,1 +1,2 @@
 pub mod SmallMarks
+mod LoanLists

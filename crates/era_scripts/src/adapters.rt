@@ -1,13 +1,13 @@
 //! Each adapter on a real file or stream.
 
-use era_base::{Bay, BayError, Disk, Failed, Name, Sink, Source};
-use era_disks::{FileBay, FileDisk, StdSink, StdSource};
+use era_base::{Bay, BayError, Disk, Failed, Sink, Source};
+use era_disks::{FileBay, StdSink, StdSource};
 use std::fs::{File, OpenOptions};
 use std::test::Fail;
 use std::{env, fs, io, process};
 
 /// A path that no other test has.
-fn path_of(rt: &HostRuntime, name: &str) -> Result<String, Fail> {
+pub fn path_of(rt: &HostRuntime, name: &str) -> Result<String, Fail> {
     let folder = env::temp_dir(rt)?;
     let folder = folder.as_str();
     let id = process::id(rt.process());
@@ -87,23 +87,6 @@ fn what_is_lent_or_has_shrunk_is_a_fault(rt: HostRuntime) -> Result<(), Fail> {
         "shrunk"
     );
     fs::remove_file(&rt, path.as_str())?;
-    Ok(())
-}
-
-#[test]
-fn after_a_failed_sync_every_call_fails(rt: HostRuntime) -> Result<(), Fail> {
-    // The device can be read, and has no data sync.
-    let file = OpenOptions::new()
-        .read(true)
-        .write(true)
-        .open(&rt, "/dev/zero")?;
-    let mut disk = FileDisk::new(Name::from_text(rt.alloc(), "zero")?, file, 0, 1);
-    let mut into = [1u8; 512];
-    disk.read(0, &mut into)?;
-    assert!(rt; disk.sync() == Err(Failed) && disk.faults() == 1);
-    assert!(rt; disk.read(0, &mut into) == Err(Failed) && disk.faults() == 2);
-    assert!(rt; disk.write(0, into.as_slice()) == Err(Failed) && disk.faults() == 3);
-    assert!(rt; disk.sync() == Err(Failed) && disk.faults() == 4);
     Ok(())
 }
 

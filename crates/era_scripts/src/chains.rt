@@ -5,7 +5,7 @@ use crate::moves::Move::{
     Snap, Tried,
 };
 use crate::moves::{Move, steps_of};
-use crate::small_images::{Left, Marked};
+use crate::small_images::{Archived, Left, Marked};
 use crate::small_sessions::small_core;
 use era_core::run;
 use era_model::{Event, Happening, Kind, Opening, Why};
@@ -34,7 +34,7 @@ const TORN: Left = Left {
     marks: Marked {
         era: 1,
         array: None,
-        archived: None,
+        archived: Archived::None,
         current: Some((0, 1)),
     },
     held: None,
@@ -57,7 +57,7 @@ const EARLIER: Left = Left {
     marks: Marked {
         era: 2,
         array: Some((0, 1, 1)),
-        archived: None,
+        archived: Archived::None,
         current: None,
     },
     held: None,

@@ -1,23 +1,23 @@
 //! Schedules of crashes and reopenings, each refused by one rule.
 
 use crate::moves::Move;
-use crate::moves::Move::{Crash, Enter, Mark, Reopen, Roll, Snap, Tried};
-use crate::small_images::{Left, Marked};
-use crate::tables::{BROKEN, MARKED, Row, WRITTEN, first_unmet};
+use crate::moves::Move::{Crash, CrashBlank, Enter, Leave, Mark, Reopen, Roll, Snap, Tried};
+use crate::small_images::{Archived, Left, Marked};
+use crate::tables::{BROKEN, MARKED, Row, WRITTEN, first_unmet, first_unmet_in, switched};
 use std::test::Fail;
 
 /// Marks of no block.
-fn unmarked(era: u32) -> Marked {
+pub fn unmarked(era: u32) -> Marked {
     Marked {
         era,
         array: None,
-        archived: None,
+        archived: Archived::None,
         current: None,
     }
 }
 
 /// Marks of blocks in the era.
-fn marked(era: u32, first: u32, last: u32) -> Marked {
+pub fn marked(era: u32, first: u32, last: u32) -> Marked {
     Marked {
         current: Some((first, last)),
         ..unmarked(era)
@@ -25,7 +25,7 @@ fn marked(era: u32, first: u32, last: u32) -> Marked {
 }
 
 /// A crash that leaves these bytes in the first two sectors, and these marks.
-fn crash(sectors: [u8; 2], marks: Marked, held: Option<Marked>) -> Move {
+pub fn crash(sectors: [u8; 2], marks: Marked, held: Option<Marked>) -> Move {
     Crash(Left {
         sectors,
         marks,
@@ -34,16 +34,17 @@ fn crash(sectors: [u8; 2], marks: Marked, held: Option<Marked>) -> Move {
 }
 
 /// A crash of an origin of zeros, without a snapshot.
-fn blank(marks: Marked) -> Move {
+pub fn blank(marks: Marked) -> Move {
     crash([0, 0], marks, None)
 }
 
 #[test]
 fn sessions_open_right_after_a_crash(rt: HostRuntime) -> Result<(), Fail> {
     let ended = blank(unmarked(1));
-    let rows: [Row; 7] = [
+    let rows: [Row; 8] = [
         ("no event", &[], &[ended, Snap(0, 2)], 1),
         ("no stripe enters", &[], &[ended, Enter(0)], 1),
+        ("no stripe leaves", &[Enter(0)], &[ended, Leave(0)], 2),
         ("no other crash", &[], &[ended, ended], 1),
         ("a crash before", &[], &[Reopen(4)], 0),
         ("some stripe", &[], &[ended, Reopen(0)], 1),
@@ -51,6 +52,10 @@ fn sessions_open_right_after_a_crash(rt: HostRuntime) -> Result<(), Fail> {
         ("opens once", &[], &[ended, Reopen(16), Reopen(16)], 2),
     ];
     assert_eq!(rt; first_unmet(rt.alloc(), rows.as_slice())?, None);
+    let last = u32::MAX;
+    let ends = blank(unmarked(last));
+    let rows: [Row; 1] = [("an era behind it", &[], &[ends, Reopen(4)], 1)];
+    assert_eq!(rt; first_unmet_in(rt.alloc(), last, rows.as_slice())?, None);
     Ok(())
 }
 
@@ -58,7 +63,21 @@ fn sessions_open_right_after_a_crash(rt: HostRuntime) -> Result<(), Fail> {
 fn a_crash_leaves_all_but_writes_in_flight(rt: HostRuntime) -> Result<(), Fail> {
     let marks = marked(1, 0, 0);
     let right = crash([0x77, 0], marks, None);
-    let rows: [Row; 4] = [
+    let rows: [Row; 8] = [
+        ("no more bytes", &[], &[CrashBlank(512, 8, 262_145)], 0),
+        ("all bytes", &[], &[CrashBlank(512, 8, 261_632)], 0),
+        (
+            "marks of the length",
+            &[],
+            &[CrashBlank(513, 8, 262_144)],
+            0,
+        ),
+        (
+            "marks of the block size",
+            &[],
+            &[CrashBlank(512, 16, 262_144)],
+            0,
+        ),
         (
             "outside a cut write",
             &BROKEN,
@@ -135,6 +154,73 @@ fn a_recovered_snapshot_is_one_of_the_session(rt: HostRuntime) -> Result<(), Fai
             3,
         ),
         ("valid marks", &[], &[found(unmarked(1), unmarked(0))], 0),
+    ];
+    assert_eq!(rt; first_unmet(rt.alloc(), rows.as_slice())?, None);
+    Ok(())
+}
+
+#[test]
+fn recovered_marks_are_valid(rt: HostRuntime) -> Result<(), Fail> {
+    let archived = |archived, era| {
+        blank(Marked {
+            archived,
+            ..unmarked(era)
+        })
+    };
+    let array = |entry, archived, era| {
+        blank(Marked {
+            array: Some((0, 0, entry)),
+            archived,
+            ..unmarked(era)
+        })
+    };
+    let seventeen = switched(rt.alloc(), 17)?;
+    let moved = [Roll(0, 2), Roll(1, 3)];
+    let moved = moved.as_slice();
+    let later = [Roll(0, 2), Tried(1, 0, 2), Mark(1, 0, 2), Roll(2, 3)];
+    let rows: [Row; 7] = [
+        (
+            "sets in order",
+            moved,
+            &[archived(Archived::Two(2, 1), 3)],
+            2,
+        ),
+        (
+            "one set of an era",
+            moved,
+            &[archived(Archived::Two(1, 1), 3)],
+            2,
+        ),
+        (
+            "sets of earlier eras",
+            moved,
+            &[archived(Archived::Two(2, 3), 3)],
+            2,
+        ),
+        (
+            "sets of some era",
+            moved,
+            &[archived(Archived::Two(0, 1), 3)],
+            2,
+        ),
+        (
+            "sixteen sets",
+            seventeen.as_slice(),
+            &[array(1, Archived::Many(17), 18)],
+            19,
+        ),
+        (
+            "entries up to the oldest set",
+            later.as_slice(),
+            &[array(2, Archived::Two(1, 2), 3)],
+            4,
+        ),
+        (
+            "entries of earlier eras",
+            &MARKED,
+            &[array(1, Archived::None, 1)],
+            2,
+        ),
     ];
     assert_eq!(rt; first_unmet(rt.alloc(), rows.as_slice())?, None);
     Ok(())

@@ -2,11 +2,19 @@
 #![tactic(auto)]
 
 #[cfg(test)]
+mod accepted_schedules;
+#[cfg(test)]
 mod adapters;
+#[cfg(test)]
+mod bay_loans;
 #[cfg(test)]
 mod chains;
 #[cfg(test)]
 mod crash_schedules;
+#[cfg(test)]
+mod failed_syncs;
+#[cfg(test)]
+mod file_loans;
 #[cfg(test)]
 mod fuses;
 #[cfg(test)]
@@ -17,6 +25,8 @@ mod moves;
 mod plain_calls;
 #[cfg(test)]
 mod plain_disks;
+#[cfg(test)]
+mod slot_bytes;
 #[cfg(test)]
 mod slot_calls;
 #[cfg(test)]

@@ -5,15 +5,12 @@ use crate::moves::Move::{
     Cut, Digest, Dropped, Enter, Kept, Leave, List, ListSnap, Mark, Refused, Roll, Snap, Status,
     Tried,
 };
-use crate::tables::{BROKEN, MARKED, OPEN, Row, WRITTEN, first_unmet};
+use crate::tables::{BROKEN, MARKED, OPEN, Row, VOLATILE, WRITTEN, first_unmet};
 use era_model::{Kind, Why};
 use std::test::Fail;
 
 /// Block 0 is marked in era 1, and era 2 is present.
 const ARCHIVED: [Move; 3] = [Tried(0, 0, 1), Mark(0, 0, 1), Roll(1, 2)];
-
-/// The era moved to 2, and the metadata disk failed then, with a count of 3.
-const VOLATILE: [Move; 2] = [Roll(0, 2), Refused(0, Kind::Checkpoint, Why::MetaFault(3))];
 
 #[test]
 fn eras_move_and_stay_by_their_rules(rt: HostRuntime) -> Result<(), Fail> {
@@ -74,7 +71,7 @@ fn lists_and_statuses_are_exact(rt: HostRuntime) -> Result<(), Fail> {
     let first = Some((0, 0));
     let held = [Snap(0, 2), Tried(1, 0, 1), Mark(1, 0, 1)];
     let held = held.as_slice();
-    let rows: [Row; 12] = [
+    let rows: [Row; 13] = [
         ("no block too many", &MARKED, &[List(1, 1, Some((0, 1)))], 2),
         ("no block too few", &MARKED, &[List(1, 1, None)], 2),
         (
@@ -96,6 +93,12 @@ fn lists_and_statuses_are_exact(rt: HostRuntime) -> Result<(), Fail> {
             "used blocks with a snapshot",
             held,
             &[Status(2, 4, 57, 1, Some(2))],
+            3,
+        ),
+        (
+            "at most with the snapshot's own pages",
+            held,
+            &[Status(2, 8, 57, 1, Some(2))],
             3,
         ),
         ("all blocks", &[], &[Status(0, 4, 56, 1, None)], 0),

@@ -4,9 +4,9 @@ use crate::small_events::{
     cut, digest, done, dropped, go, kept, list, mark, read, refused, roll, settle, snap, status,
     tried, unsettled,
 };
-use crate::small_images::{Left, images_of};
+use crate::small_images::{Left, blank_images, images_of};
 use era_core::Step;
-use era_model::{Event, Kind, Why};
+use era_model::{Event, Images, Kind, Why};
 use std::alloc::Global;
 use std::test::Fail;
 
@@ -34,6 +34,8 @@ pub enum Move {
     Unsettled(u32, u32, u64),
     /// The sector and its byte.
     Read(u32, u64, u8),
+    /// The first sector and the count of bytes, which are zeros.
+    ReadZeros(u32, u64, usize),
     /// The era.
     Roll(u32, u32),
     /// The number of stripes.
@@ -51,6 +53,8 @@ pub enum Move {
     Status(u32, u32, u64, u32, Option<u32>),
     Refused(u32, Kind, Why),
     Crash(Left),
+    /// The sectors of an origin and of a block, and the count of bytes: zeros, and marks of no block in era 1.
+    CrashBlank(u64, u64, usize),
     /// The number of stripes.
     Reopen(u32),
 }
@@ -60,7 +64,10 @@ pub fn step_of(alloc: Global, spelled: Move) -> Result<Step, Fail> {
     let event = match spelled {
         Move::Enter(stripe) => return Ok(Step::Enter { stripe }),
         Move::Leave(stripe) => return Ok(Step::Leave { stripe }),
-        Move::Crash(left) => return crash(alloc, left),
+        Move::Crash(left) => return Ok(crash(images_of(alloc, left)?)),
+        Move::CrashBlank(sectors, block_sectors, count) => {
+            return Ok(crash(blank_images(alloc, sectors, block_sectors, count)?));
+        }
         Move::Reopen(stripes) => return Ok(Step::Reopen { stripes }),
         Move::Tried(id, block, era) => tried(id, block, era),
         Move::Mark(id, block, era) => mark(id, block, era),
@@ -70,7 +77,8 @@ pub fn step_of(alloc: Global, spelled: Move) -> Result<Step, Fail> {
         Move::Cut(id, faults) => cut(id, faults),
         Move::Settle(by, id, count) => settle(alloc, by, id, count)?,
         Move::Unsettled(by, id, faults) => unsettled(by, id, faults),
-        Move::Read(id, sector, byte) => read(alloc, id, sector, byte)?,
+        Move::Read(id, sector, byte) => read(alloc, id, sector, byte, 512)?,
+        Move::ReadZeros(id, sector, count) => read(alloc, id, sector, 0, count)?,
         Move::Roll(id, era) => roll(id, era),
         Move::Kept(id, inside) => kept(id, inside),
         Move::Snap(id, block) => snap(id, block),
@@ -85,10 +93,8 @@ pub fn step_of(alloc: Global, spelled: Move) -> Result<Step, Fail> {
 }
 
 /// A crash that leaves this.
-fn crash(alloc: Global, left: Left) -> Result<Step, Fail> {
-    Ok(Step::Crash {
-        place_images: images_of(alloc, left)?,
-    })
+fn crash(place_images: Images) -> Step {
+    Step::Crash { place_images }
 }
 
 /// All of the steps.

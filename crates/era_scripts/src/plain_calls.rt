@@ -88,6 +88,48 @@ fn two_writes_and_a_read(alloc: Global) -> Result<Journal, Fail>
     })
 }
 
+/// A request for the block's mark in the era.
+fn request(place: u64, number: u32, block: u32, era: u32) -> Entry {
+    let id = CmdId { lane: 0, number };
+    Entry {
+        place,
+        event: Event::Tried { id, block, era },
+    }
+}
+
+/// A request for the mark of block 0 in era 1, a switch, and a request for that of block 1 in era 2.
+fn two_requests(alloc: Global) -> Result<Journal, Fail>
+    ensures { IfOk result (λ journal. TellsAllBytes journal.opening) }
+{
+    let mut entries = EntryList::new(alloc);
+    entries.push(request(0, 0, 0, 1))?;
+    entries.push(Entry {
+        place: 1,
+        event: Event::Roll {
+            id: CmdId { lane: 0, number: 1 },
+            era: 2,
+        },
+    })?;
+    entries.push(request(2, 2, 1, 2))?;
+    Ok(Journal {
+        opening: small_opening(alloc)?,
+        entries,
+    })
+}
+
+#[test]
+fn asked_since_an_era_has_the_requests_of_later_ones(rt: HostRuntime) -> Result<(), Fail> {
+    let journal = two_requests(rt.alloc())?;
+    assert_eq!(rt; journal.entries.as_slice().len(), 3);
+    let both = asked_since(rt.alloc(), &journal, 3, 1)?;
+    assert!(rt; both.as_slice() == [(0, 1)].as_slice());
+    let later = asked_since(rt.alloc(), &journal, 3, 2)?;
+    assert!(rt; later.as_slice() == [(1, 1)].as_slice());
+    let none = asked_since(rt.alloc(), &journal, 3, 3)?;
+    assert!(rt; none.as_slice() == [].as_slice());
+    Ok(())
+}
+
 #[test]
 fn plain_calls_tell_what_was_written(rt: HostRuntime) -> Result<(), Fail> {
     let journal = two_writes_and_a_read(rt.alloc())?;

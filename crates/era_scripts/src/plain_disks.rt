@@ -6,7 +6,7 @@ use std::test::Fail;
 
 #[test]
 fn a_plain_disk_reads_what_was_written(rt: HostRuntime) -> Result<(), Fail> {
-    let mut disk = PlainDisk::new(rt.alloc(), "origin", 8, 4)?;
+    let mut disk = PlainDisk::new(rt.alloc(), "origin", 4)?;
     let mut into = [1; 1_024];
     if disk.sectors() == 4 {
         disk.write(1, [7; 1_024].as_slice())?;

@@ -2,7 +2,7 @@
 
 ghost use Rattle.std.specs.Prelude.{◌≡◌};
 ghost use Rattle.era_disks.specs.MemDisk.{history_of, sectors_of};
-ghost use Rattle.era_slots.specs.Opening.{SlotsStand};
+ghost use Rattle.era_slots.specs.Calls.{StandFor};
 
 use crate::slot_disks::{Stop, blank, blank_slots, cut_at, slots_stored_twice, stored_twice};
 use era_base::Disk;
@@ -41,9 +41,9 @@ enum Call {
 /// Makes a call; a page or a body is put only where the gate is known to be closed.
 fn make(slots: &mut Slots<MemDisk>, call: Call) -> Result<(), u64>
     requires room { sectors_of slots.old.disk ≡ 456 }
-    requires stands { SlotsStand (history_of slots.old.disk).now slots.old }
+    requires stands { StandFor slots.old (history_of slots.old.disk).now }
     ensures room { sectors_of slots.new.disk ≡ 456 }
-    ensures stands { SlotsStand (history_of slots.new.disk).now slots.new }
+    ensures stands { StandFor slots.new (history_of slots.new.disk).now }
 {
     let mut page = [5; 4_096];
     let is_begun = !slots.may_be_open;
@@ -59,9 +59,9 @@ fn make(slots: &mut Slots<MemDisk>, call: Call) -> Result<(), u64>
 /// The reads, the writes and the syncs of a call; none where it failed.
 fn calls_of(slots: &mut Slots<MemDisk>, call: Call) -> Option<[u64; 3]>
     requires room { sectors_of slots.old.disk ≡ 456 }
-    requires stands { SlotsStand (history_of slots.old.disk).now slots.old }
+    requires stands { StandFor slots.old (history_of slots.old.disk).now }
     ensures room { sectors_of slots.new.disk ≡ 456 }
-    ensures stands { SlotsStand (history_of slots.new.disk).now slots.new }
+    ensures stands { StandFor slots.new (history_of slots.new.disk).now }
 {
     let before = begun(&slots.disk);
     let Ok(()) = make(slots, call) else {

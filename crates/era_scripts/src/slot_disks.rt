@@ -2,7 +2,7 @@
 
 ghost use Rattle.std.specs.Prelude.{◌≡◌, ◌+◌, ◌^◌, ◌<◌, ◌≤◌, IfOk, IfSome, OnOk};
 ghost use Rattle.era_disks.specs.MemDisk.{history_of, sectors_of};
-ghost use Rattle.era_slots.specs.Opening.{SlotsStand};
+ghost use Rattle.era_slots.specs.Calls.{StandFor};
 
 use era_base::{Bytes, Memory, Name};
 use era_disks::{DiskCall, Fuse, MemDisk};
@@ -107,10 +107,10 @@ pub fn opening_of(alloc: Global, disk: MemDisk) -> Seen
 /// Begins and commits a body of this byte.
 pub fn store(slots: &mut Slots<MemDisk>, byte: u8) -> Result<(), u64>
     requires room { 24 ≤ sectors_of slots.old.disk }
-    requires stands { SlotsStand (history_of slots.old.disk).now slots.old }
+    requires stands { StandFor slots.old (history_of slots.old.disk).now }
     requires number { slots.old.number < 2 ^ 62 }
     ensures room { sectors_of slots.new.disk ≡ sectors_of slots.old.disk }
-    ensures stands { SlotsStand (history_of slots.new.disk).now slots.new }
+    ensures stands { StandFor slots.new (history_of slots.new.disk).now }
     ensures number { OnOk result (slots.new.number ≡ slots.old.number + 1) }
 {
     let body = [byte; 3_576];
@@ -121,7 +121,7 @@ pub fn store(slots: &mut Slots<MemDisk>, byte: u8) -> Result<(), u64>
 /// The slots of a blank disk, none where the opening failed.
 pub fn blank_slots(alloc: Global) -> Result<Option<Slots<MemDisk>>, Memory>
     ensures { IfOk result (λ slots. IfSome slots (λ slots. (sectors_of slots.disk ≡ 456)
-        × SlotsStand (history_of slots.disk).now slots × (slots.number ≡ 0))) }
+        × StandFor slots (history_of slots.disk).now × (slots.number ≡ 0))) }
 {
     let disk = blank(alloc)?;
     match Slots::open(alloc, disk) {
@@ -133,7 +133,7 @@ pub fn blank_slots(alloc: Global) -> Result<Option<Slots<MemDisk>>, Memory>
 /// The slots after two commits on a blank disk, of the bytes 1 and 2; none where a call failed.
 pub fn slots_stored_twice(alloc: Global) -> Result<Option<Slots<MemDisk>>, Memory>
     ensures { IfOk result (λ slots. IfSome slots (λ slots. (sectors_of slots.disk ≡ 456)
-        × SlotsStand (history_of slots.disk).now slots × (slots.number ≡ 2))) }
+        × StandFor slots (history_of slots.disk).now × (slots.number ≡ 2))) }
 {
     let Some(mut slots) = blank_slots(alloc)? else {
         return Ok(None);
@@ -160,7 +160,7 @@ pub fn stored_twice(alloc: Global) -> Result<Option<MemDisk>, Memory>
 /// Commits of the bytes 1, 2 and 3, up to the one that fails.
 fn store_three(slots: &mut Slots<MemDisk>) -> Result<(), u64>
     requires room { 24 ≤ sectors_of slots.old.disk }
-    requires stands { SlotsStand (history_of slots.old.disk).now slots.old }
+    requires stands { StandFor slots.old (history_of slots.old.disk).now }
     requires number { slots.old.number ≡ 0 }
     ensures { sectors_of slots.new.disk ≡ sectors_of slots.old.disk }
 {

@@ -79,12 +79,12 @@ pub fn unsettled(by: u32, cut: u32, faults: u64) -> Event {
     }
 }
 
-/// A read of one sector, which is full of the byte.
-pub fn read(alloc: Global, id: u32, sector: u64, byte: u8) -> Result<Event, Memory> {
+/// A read of so many bytes `byte` from the sector on.
+pub fn read(alloc: Global, id: u32, sector: u64, byte: u8, count: usize) -> Result<Event, Memory> {
     Ok(Event::Read {
         id: named(id),
         sector,
-        bytes: filled(alloc, byte, 512)?,
+        bytes: filled(alloc, byte, count)?,
     })
 }
 

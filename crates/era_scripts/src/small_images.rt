@@ -9,14 +9,25 @@ use era_model::{Contents, EraRuns, Images, MarkedSet, Marks, SetList};
 use std::alloc::Global;
 use std::test::Fail;
 
+/// Archived sets, oldest first.
+#[derive(Clone, Copy, Debug)]
+pub enum Archived {
+    None,
+    /// A set of the blocks from the first to the second one, with its era.
+    One(u32, u32, u32),
+    /// Two sets of no block, with these eras.
+    Two(u32, u32),
+    /// So many sets of no block, with the eras 1, 2 and so on.
+    Many(u32),
+}
+
 /// Marks of 64 blocks. Blocks are a run, the first and the last one.
 #[derive(Clone, Copy, Debug)]
 pub struct Marked {
     pub era: u32,
     /// Blocks with this era in the array.
     pub array: Option<(u32, u32, u32)>,
-    /// Blocks of an archived set, with its era.
-    pub archived: Option<(u32, u32, u32)>,
+    pub archived: Archived,
     /// Blocks that are marked in the era.
     pub current: Option<(u32, u32)>,
 }
@@ -55,14 +66,43 @@ fn array_of(alloc: Global, run: Option<(u32, u32, u32)>) -> Result<EraRuns, Memo
     Ok(runs)
 }
 
-/// An archive of this set, if there is one.
-fn archive_of(alloc: Global, set: Option<(u32, u32, u32)>) -> Result<SetList, Memory>
+/// A set of no block, with the era.
+fn empty_set(alloc: Global, era: u32) -> MarkedSet
+    ensures { SetEndsWithin 64 result.blocks }
+{
+    MarkedSet {
+        era,
+        blocks: Runs::new(alloc),
+    }
+}
+
+/// So many sets of no block, with the eras 1, 2 and so on.
+fn many_sets(alloc: Global, count: u32) -> Result<SetList, Memory>
     ensures { IfOk result (λ sets. SetsEndWithin 64 sets) }
 {
     let mut sets = SetList::new(alloc);
-    if let Some((first, last, era)) = set {
-        let blocks = set_of(alloc, Some((first, last)))?;
-        sets.push(MarkedSet { era, blocks })?;
+    for before in 0..count {
+        sets.push(empty_set(alloc, before + 1))?;
+    }
+    Ok(sets)
+}
+
+/// The archive of these sets.
+fn archive_of(alloc: Global, archived: Archived) -> Result<SetList, Memory>
+    ensures { IfOk result (λ sets. SetsEndWithin 64 sets) }
+{
+    let mut sets = SetList::new(alloc);
+    match archived {
+        Archived::None => {}
+        Archived::One(first, last, era) => {
+            let blocks = set_of(alloc, Some((first, last)))?;
+            sets.push(MarkedSet { era, blocks })?;
+        }
+        Archived::Two(older, newer) => {
+            sets.push(empty_set(alloc, older))?;
+            sets.push(empty_set(alloc, newer))?;
+        }
+        Archived::Many(count) => return many_sets(alloc, count),
     }
     Ok(sets)
 }
@@ -79,6 +119,28 @@ fn marks_of(alloc: Global, marked: Marked) -> Result<Marks, Fail> {
         array,
         archive,
         current,
+    })
+}
+
+/// So many zeros, and marks of no block in era 1, for an origin of so many sectors in blocks of this size.
+pub fn blank_images(
+    alloc: Global,
+    sectors: u64,
+    block_sectors: u64,
+    count: usize,
+) -> Result<Images, Fail> {
+    Ok(Images {
+        contents: Contents {
+            bytes: Some(Bytes::from_vec(vec![in alloc; 0; count]?)),
+        },
+        marks: Marks {
+            geometry: Geometry::new(sectors, block_sectors)?,
+            era: 1,
+            array: EraRuns::new(alloc),
+            archive: SetList::new(alloc),
+            current: Runs::new(alloc),
+        },
+        held: None,
     })
 }
 

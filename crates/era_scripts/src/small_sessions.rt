@@ -1,6 +1,6 @@
-//! The opening of a small first session, and the machine at it.
+//! The opening of a small first session, in era 1 or in another one, and the machine at it.
 
-ghost use Rattle.std.specs.Prelude.{◌≡◌, IfOk};
+ghost use Rattle.std.specs.Prelude.{◌≡◌, ◌≤◌, IfOk};
 ghost use Rattle.era_model.specs.Legal.{IsOpening};
 ghost use Rattle.era_model.specs.PlainCalls.{TellsAllBytes};
 ghost use Rattle.era_model.specs.Validity.{AreValidMarks};
@@ -11,16 +11,17 @@ use era_model::{Contents, EraRuns, Marks, Opening, SetList};
 use std::alloc::Global;
 use std::test::Fail;
 
-/// Marks of no block, in era 1.
-fn no_marks(alloc: Global, geometry: Geometry) -> Marks
+/// Marks of no block, in the era.
+fn no_marks(alloc: Global, geometry: Geometry, era: u32) -> Marks
+    requires { 1 ≤ era }
     ensures valid { AreValidMarks result }
     ensures geometry { (result.sectors ≡ geometry.sectors)
         × (result.block_sectors ≡ geometry.block_sectors) }
-    ensures era { result.era ≡ 1 }
+    ensures era { result.era ≡ era }
 {
     Marks {
         geometry,
-        era: 1,
+        era,
         array: EraRuns::new(alloc),
         archive: SetList::new(alloc),
         current: Runs::new(alloc),
@@ -31,12 +32,20 @@ fn no_marks(alloc: Global, geometry: Geometry) -> Marks
 pub fn small_opening(alloc: Global) -> Result<Opening, Fail>
     ensures { IfOk result (λ opening. TellsAllBytes opening × IsOpening opening) }
 {
+    opening_in(alloc, 1)
+}
+
+/// The same in the era.
+fn opening_in(alloc: Global, era: u32) -> Result<Opening, Fail>
+    requires { 1 ≤ era }
+    ensures { IfOk result (λ opening. TellsAllBytes opening × IsOpening opening) }
+{
     let geometry = Geometry::new(512, 8)?;
     let zeros = Bytes::from_vec(vec![in alloc; 0; 262_144]?);
     Ok(Opening {
         geometry,
-        era: 1,
-        marks: no_marks(alloc, geometry),
+        era,
+        marks: no_marks(alloc, geometry, era),
         held: None,
         total: 57,
         stripes: 4,
@@ -46,6 +55,11 @@ pub fn small_opening(alloc: Global) -> Result<Opening, Fail>
 
 /// The machine at this opening.
 pub fn small_core(alloc: Global) -> Result<Core, Fail> {
-    let opening = small_opening(alloc)?;
+    core_in(alloc, 1)
+}
+
+/// The machine at such an opening in the era, or in era 1 in the place of 0.
+pub fn core_in(alloc: Global, era: u32) -> Result<Core, Fail> {
+    let opening = opening_in(alloc, era.max(1))?;
     Ok(Core::new(alloc, opening)?)
 }

@@ -1,7 +1,7 @@
 //! Schedules of stripes and writes, each refused by one rule.
 
 use crate::moves::Move::{
-    Cut, Done, Enter, Go, GoFrom, Leave, Mark, Read, Roll, Settle, Tried, Unsettled,
+    Cut, Done, Enter, Go, GoFrom, Leave, Mark, Read, ReadZeros, Roll, Settle, Tried, Unsettled,
 };
 use crate::tables::{BROKEN, MARKED, OPEN, Row, WRITTEN, first_unmet};
 use std::test::Fail;
@@ -49,7 +49,7 @@ fn writes_are_issued_by_their_rules(rt: HostRuntime) -> Result<(), Fail> {
     let moved = moved.as_slice();
     let ready = [Tried(0, 0, 1), Mark(0, 0, 1), Enter(0)];
     let ready = ready.as_slice();
-    let rows: [Row; 11] = [
+    let rows: [Row; 12] = [
         (
             "marked block",
             &[Enter(0)],
@@ -60,6 +60,12 @@ fn writes_are_issued_by_their_rules(rt: HostRuntime) -> Result<(), Fail> {
         ("present era", moved, &[Go(0, 0, 1)], 4),
         ("one write for a command", &WRITTEN, &[Go(0, 0, 1)], 5),
         ("one open write in a stripe", &OPEN, &[Go(1, 0, 1)], 4),
+        (
+            "of any of its blocks",
+            &OPEN,
+            &[Tried(1, 1, 1), Mark(1, 1, 1), Go(1, 1, 1)],
+            6,
+        ),
         ("no cut write in the stripe", &BROKEN, &[Go(1, 0, 1)], 5),
         ("stripe inside", &MARKED, &[Go(0, 0, 1)], 2),
         ("some bytes", ready, &[GoFrom(0, 0, 0)], 3),
@@ -125,7 +131,7 @@ fn writes_end_by_their_rules(rt: HostRuntime) -> Result<(), Fail> {
 
 #[test]
 fn reads_give_the_content(rt: HostRuntime) -> Result<(), Fail> {
-    let rows: [Row; 6] = [
+    let rows: [Row; 9] = [
         ("what was written", &WRITTEN, &[Read(1, 0, 0)], 5),
         ("what wasn't written", &WRITTEN, &[Read(1, 1, 0xaa)], 5),
         ("not what is still written", &OPEN, &[Read(1, 0, 0xaa)], 4),
@@ -142,6 +148,9 @@ fn reads_give_the_content(rt: HostRuntime) -> Result<(), Fail> {
             6,
         ),
         ("a known sector", &[], &[Read(0, 512, 0)], 0),
+        ("no half sector", &[], &[ReadZeros(0, 0, 256)], 0),
+        ("no half sector more", &[], &[ReadZeros(0, 0, 768)], 0),
+        ("one block", &[], &[ReadZeros(0, 7, 1_024)], 0),
     ];
     assert_eq!(rt; first_unmet(rt.alloc(), rows.as_slice())?, None);
     Ok(())

@@ -3,4 +3,4 @@ use Rattle.era_scripts.proofs.small_sessions.no_marks.Goals as goal
 
 -- no block is marked
 pub returns-clause-valid : goal.returns-clause-valid
-returns-clause-valid c = rw (c.new.ensures, c.new-2.ensures, c.new-3.ensures) (valid-no_runs c.args.geometry)
+returns-clause-valid c = rw (c.new.ensures, c.new-2.ensures, c.new-3.ensures) (valid-no_runs c.args.geometry c.args.era c.requires)
