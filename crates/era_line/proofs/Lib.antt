@@ -1,2 +1,10 @@
 pub mod Spelling
 pub mod Gathering
+pub mod PartSteps
+pub mod Lines
+pub mod Taken
+pub mod Inside
+pub mod CutSteps
+pub mod WordSteps
+pub mod LineTexts
+pub mod StatusSteps

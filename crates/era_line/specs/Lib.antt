@@ -1,3 +1,12 @@
+pub mod Lines
+pub mod Words
+pub mod Cuts
+pub mod Reading
+pub mod Moving
+pub mod Numbers
+pub mod Messages
+pub mod StatusLine
 pub mod TableLine
 pub mod TextBuffer
+pub mod Parts
 pub mod Inside

@@ -1,9 +1,10 @@
 -- The line that says how a target is made: its length, its two devices and its block size.
-use Rattle.std.specs.Prelude.{◌≡◌, ◌≢◌, ℕ, ◌<◌, ◌^◌, List, ◌∷◌, ◌++◌, length, codes, decimal, All}
+use Rattle.std.specs.Prelude.{◌≡◌, ℕ, ◌<◌, ◌^◌, List, ◌∷◌, ◌++◌, length, codes, decimal}
+use Rattle.era_line.specs.Lines.{HasNo}
 
 -- No byte is a space.
 abbrev pub HasNoSpace : List ℕ → Type 0
-HasNoSpace bytes = All (λ byte. byte ≢ 32) bytes
+HasNoSpace bytes = HasNo 32 bytes
 
 -- A device's name in a line has at least one byte, and no space.
 pub record IsName (name : List ℕ) : Type 0 where

@@ -22,3 +22,11 @@ pub fn read_decimal(text: &[u8]) -> Option<u64>
         None
     }
 }
+
+/// The number below 2^32 of which a text is the decimal, as an era or a block.
+pub fn read_u32(text: &[u8]) -> Option<u32>
+    ensures some { IfSome result (λ value. text.now ≡ decimal value) }
+    ensures none { IfNone result ((value : ℕ) → value < 2 ^ 32 → text.now ≢ decimal value) }
+{
+    u32::try_from(read_decimal(text)?).ok()
+}

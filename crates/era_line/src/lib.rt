@@ -1,15 +1,29 @@
-//! Texts of a device: the table line that says how a target is made, and the buffer through which text goes out.
+//! Texts: lines and words that are read, the texts of tables, messages and states, and text on its way to a sink.
 #![tactic(auto)]
 
 mod decimal;
-mod laws;
+pub mod laws;
+mod message;
+mod moved;
+mod next;
+mod parts;
+mod reader;
+mod status_line;
 mod table_line;
 mod text_buffer;
+mod words;
 
-pub use decimal::read_decimal;
-pub use laws::one_table_line;
-pub use table_line::{LineFault, TableLine, read_table};
+pub use decimal::{read_decimal, read_u32};
+pub use message::{Message, message_text, read_message};
+pub use next::{Next, ReadError};
+pub use parts::{Part, give_parts};
+pub use reader::LineReader;
+pub use status_line::{read_status, status_text};
+pub use table_line::{LineFault, TableLine, read_table, write_table};
 pub use text_buffer::TextBuffer;
+pub use words::{cut_at, split_number, split_u32, split_word};
 
+#[cfg(test)]
+mod reading_tests;
 #[cfg(test)]
 mod tests;

@@ -1,11 +1,11 @@
 //! A table line: how long a target is, on which devices it stands, and how large its blocks are.
 
-ghost use Rattle.std.specs.Prelude.{◌≡◌, ◌<◌, ◌^◌, ◌∷◌, ◌++◌, decimal, IfSome, IfNone, IfOk, IsErrOf};
+ghost use Rattle.std.specs.Prelude.{◌≡◌, ◌<◌, ◌^◌, ◌∷◌, ◌++◌, decimal, IfSome, IfNone, IfOk, IsErrOf, string_bytes};
 ghost use Rattle.era_line.specs.Inside.{BeginsWithNoNumber, BeginsWithNoName};
 ghost use Rattle.era_line.specs.TableLine.{HasNoSpace, IsName, IsTableLine, IsNoTableLine};
 
 use crate::decimal::read_decimal;
-use era_base::Name;
+use era_base::{Memory, Name};
 use std::alloc::Global;
 
 /// What a table line says: the target's length, its devices' names and its block size, in sectors of 512 bytes.
@@ -47,6 +47,20 @@ pub fn read_table(alloc: Global, text: &str) -> Result<TableLine, LineFault>
         origin,
         block_sectors: parts.block_sectors,
     })
+}
+
+/// The text of a table line, which spells it again. It takes memory for the text.
+pub fn write_table(alloc: Global, line: &TableLine) -> Result<String, Memory>
+    requires meta { IsName line.now.meta }
+    requires origin { IsName line.now.origin }
+    ensures { IfOk result (λ text. IsTableLine (string_bytes text)
+        line.now.length line.now.meta line.now.origin line.now.block_sectors) }
+{
+    let length = line.length;
+    let meta = line.meta.as_str();
+    let origin = line.origin.as_str();
+    let block_sectors = line.block_sectors;
+    Ok(format!(in alloc; "0 {length} era {meta} {origin} {block_sectors}")?)
 }
 
 // The parts of a table line, with the names where they stand in its text.

@@ -1,5 +1,4 @@
-use Rattle.std.proofs.Common.{◌≡◌, ◌++◌, ◌∙◌, arith, refl}
-use Rattle.era_line.specs.TextBuffer.{held_by}
+use Rattle.std.proofs.Common.{◌∙◌, arith, refl}
 use Rattle.era_line.proofs.Gathering.{filled-up, piece-given}
 use Rattle.era_line.proofs.text_buffer.TextBuffer.add_within.Goals as goal
 
