@@ -1,63 +1,68 @@
--- What a byte, an LF and the end make of the text that was read.
-use Rattle.std.proofs.Common.{◌≡◌, ◌≢◌, ℕ, ◌+◌, ◌<◌, ◌≤◌, List, [], ◌∷◌, ◌++◌, length, take, drop, get_or, Result, Ok, Err, sym, ◌∙◌, refl, ap, subst, arith}
-use Rattle.std.proofs.lemmas.List.{append_assoc, append-nil, length-append, length_push, take_more, drop_more, take-append-drop}
-use Rattle.std.specs.Prelude.{OnOk, IfErr}
-use Rattle.era_plan.specs.Grammar.{lines_of, Spells}
-use Rattle.era_plan.specs.Rounds.{SpellRound, IsFirstRefused, HasRead, Refuses}
-use Rattle.era_plan.specs.Inside.{FitsBehind, EndsLine, RefusesLine, RefusesAt, IsOwn}
+-- What a line, its refusal and the end of the source make of the round that was read so far.
+use Rattle.std.proofs.Common.{◌≡◌, ℕ, ◌+◌, ◌<◌, List, [], ◌∷◌, ◌++◌, length, Option, Some, sym, ◌∙◌, refl, ap, subst, arith}
+use Rattle.std.proofs.lemmas.List.{append_assoc, append-nil}
+use Rattle.era_line.specs.Lines.{lines_of}
+use Rattle.era_line.specs.Reading.{IsAhead, IsRest, LeavesRest, ReadsLine, BeginsLong, FailsInside}
+use Rattle.era_line.specs.declared.next.ReadError.{ReadError}
+use Rattle.era_line.specs.declared.next.ReadError.TheVariants.{Source as SourceFailed, Memory as NoMemory}
+use Rattle.era_line.specs.Reading.{HasErrorCause as HasCauseOfRead}
 use Rattle.era_model.specs.declared.command.Command.{Command}
 use Rattle.era_model.specs.declared.command.Task.{Task}
+use Rattle.era_plan.specs.Grammar.{Spells}
+use Rattle.era_plan.specs.Rounds.{SpellRound, IsFirstRefused, LeftBehind, Refuses, FailsBehind, HasErrorCause}
+use Rattle.era_plan.specs.Errors.{plan_error}
+use Rattle.era_plan.specs.Inside.{StandsBehind, FitsBehind, EndsLine, RefusesLine, RefusesAt}
 use Rattle.era_plan.specs.declared.round.PlanError.{PlanError}
 use Rattle.era_plan.specs.declared.round.PlanError.TheVariants.{Line, Source, Memory}
 use Rattle.era_plan.proofs.Spelling.{Spells-short}
-use Rattle.era_plan.proofs.LineSteps.{line_before-end, line_before-more, line_before-pushed}
 use Rattle.era_plan.proofs.RoundSteps.{SpellRound-push, IsFirstRefused-line}
 
+-- the lines that have ended spell the commands so far, and where the source tells its text, the others are still to be read
+pub record IsRead (before now : Option (List ℕ)) (taken : List ℕ) (commands : List Command) : Type 0 where
+  pub ended : List (List ℕ)
+  pub round : SpellRound ended commands
+  pub leaves : LeavesRest before now
+  pub behind : (text : List ℕ) → before ≡ Some text → StandsBehind text ended taken now
+
 -- nothing is read yet
-pub HasRead-start : HasRead [] [] []
-HasRead-start = record { ended = []; split = λ rest. refl; round = record { each = tt; count = omega arith; payload = omega arith } }
+pub IsRead-start : (before : Option (List ℕ)) → IsRead before before [] []
+IsRead-start before = record {
+  ended = [];
+  round = record { each = tt; count = omega arith; payload = omega arith };
+  leaves = λ bytes told. record { front = []; rest = bytes; told = told; joined = refl };
+  behind = λ text told. record { next = text; ahead = record { rest = text; told = told; joined = refl }; split = refl };
+}
 
--- a byte of the line is read
-pub HasRead-more : (text : List ℕ) (commands : List Command) (line : List ℕ) (byte : ℕ) → byte ≢ 10 → HasRead text commands line → HasRead (text ++ byte ∷ []) commands (line ++ byte ∷ [])
-HasRead-more text commands line byte other read =
+-- a rest of a rest
+leaves_more : (before now now' : Option (List ℕ)) → LeavesRest before now → LeavesRest now now' → LeavesRest before now'
+leaves_more before now now' one more = λ bytes told.
+    let first = one bytes told in
+    let second = more first.rest first.told in
     record {
-      ended = read.ended;
-      split = λ rest.
-          ap lines_of (append_assoc text (byte ∷ []) rest) ∙ read.split (byte ∷ rest)
-          ∙ ap (λ l. read.ended ++ l) (line_before-more byte other line (lines_of rest));
-      round = read.round;
+      front = first.front ++ second.front;
+      rest = second.rest;
+      told = second.told;
+      joined = append_assoc first.front second.front second.rest ∙ ap (λ l. first.front ++ l) second.joined ∙ first.joined;
     }
 
--- an LF is read
-pub HasRead-end : (text : List ℕ) (commands : List Command) (line : List ℕ) (new : List Command) → HasRead text commands line → EndsLine commands line new → HasRead (text ++ 10 ∷ []) new []
-HasRead-end text commands line new read ends =
-    record {
-      ended = read.ended ++ line ∷ [];
-      split = λ rest.
-          ap lines_of (append_assoc text (10 ∷ []) rest) ∙ read.split (10 ∷ rest)
-          ∙ ap (λ l. read.ended ++ l) (line_before-end line (lines_of rest))
-          ∙ sym (append_assoc read.ended (line ∷ []) (lines_of rest));
-      round = subst (λ (l : List Command). SpellRound (read.ended ++ line ∷ []) l) (sym ends.pushed)
-          (SpellRound-push read.ended commands line ends.task read.round ends.spelled ends.fits);
-    }
-
--- the text ends with an LF, or is empty
-pub HasRead-whole : (text : List ℕ) (commands : List Command) → HasRead text commands [] → SpellRound (lines_of text) commands
-HasRead-whole text commands read =
-    let split : lines_of text ≡ read.ended = ap lines_of (sym (append-nil text)) ∙ read.split [] ∙ append-nil read.ended in
-    subst (λ (l : List (List ℕ)). SpellRound l commands) (sym split) read.round
-
--- the lines of a text whose last line has no LF
-lines_of-last : (text : List ℕ) (commands : List Command) (line : List ℕ) (read : HasRead text commands line) → line ≢ [] → lines_of text ≡ read.ended ++ line ∷ []
-lines_of-last text commands [] read some = absurd (some refl)
-lines_of-last text commands (byte ∷ line) read some = ap lines_of (sym (append-nil text)) ∙ read.split []
-
--- the text ends with a line that has no LF
-pub HasRead-last : (text : List ℕ) (commands : List Command) (line : List ℕ) (new : List Command) → line ≢ [] → HasRead text commands line → EndsLine commands line new → SpellRound (lines_of text) new
-unfolding HasRead-end
-HasRead-last text commands line new some read ends =
-    subst (λ (l : List (List ℕ)). SpellRound l new) (sym (lines_of-last text commands line read some))
-    (HasRead-end text commands line new read ends).round
+-- a line has ended
+pub IsRead-line : (before now now' : Option (List ℕ)) (taken taken' line : List ℕ) (commands commands' : List Command)
+    → IsRead before now taken commands → LeavesRest now now' → ((text : List ℕ) → IsAhead taken now text → ReadsLine text line taken' now')
+    → EndsLine commands line commands' → IsRead before now' taken' commands'
+IsRead-line before now now' taken taken' line commands commands' read leaves reads ends = record {
+  ended = read.ended ++ line ∷ [];
+  round = subst (λ (l : List Command). SpellRound (read.ended ++ line ∷ []) l) (sym ends.pushed)
+      (SpellRound-push read.ended commands line ends.task read.round ends.spelled ends.fits);
+  leaves = leaves_more before now now' read.leaves leaves;
+  behind = λ text told.
+      let here = read.behind text told in
+      let next = reads here.next here.ahead in
+      record {
+        next = next.rest;
+        ahead = next.ahead;
+        split = here.split ∙ ap (λ l. read.ended ++ l) next.first ∙ sym (append_assoc read.ended (line ∷ []) (lines_of next.rest));
+      };
+}
 
 -- what is refused of a line is refused of a text in which it stands behind those that have ended
 refuses_at : (text : List ℕ) (lines : List (List ℕ)) (line : List ℕ) (after : List (List ℕ)) (commands : List Command) (error : PlanError)
@@ -70,27 +75,14 @@ refuses_at text lines line after commands (Line error) e round why = (
 refuses_at text lines line after commands (Source count) e round why = tt
 refuses_at text lines line after commands Memory e round why = tt
 
-pub Refuses-end : (text rest : List ℕ) (commands : List Command) (line : List ℕ) (error : PlanError) → HasRead text commands line → RefusesLine commands line error → Refuses (text ++ 10 ∷ rest) error
-Refuses-end text rest commands line error read why =
-    refuses_at (text ++ 10 ∷ rest) read.ended line (lines_of rest) commands error
-    (read.split (10 ∷ rest) ∙ ap (λ l. read.ended ++ l) (line_before-end line (lines_of rest))) read.round why
-
-pub Refuses-last : (text : List ℕ) (commands : List Command) (line : List ℕ) (error : PlanError) → line ≢ [] → HasRead text commands line → RefusesLine commands line error → Refuses text error
-Refuses-last text commands line error some read why =
-    refuses_at text read.ended line [] commands error (lines_of-last text commands line read some) read.round why
-
--- a line that is too long is refused
-pub IsFirstRefused-long : (text rest : List ℕ) (commands : List Command) (line : List ℕ) (byte : ℕ) → byte ≢ 10 → 131200 ≤ length line → HasRead text commands line
-    → IsFirstRefused (lines_of (text ++ byte ∷ rest)) (length commands + 1)
-IsFirstRefused-long text rest commands line byte other long read =
-    let begins = line_before-pushed line byte (lines_of rest) in
-    let split : lines_of (text ++ byte ∷ rest) ≡ read.ended ++ ((line ++ byte ∷ []) ++ begins.more) ∷ begins.after =
-    read.split (byte ∷ rest) ∙ ap (λ l. read.ended ++ l) (line_before-more byte other line (lines_of rest) ∙ begins.split) in
-    let size : length ((line ++ byte ∷ []) ++ begins.more) ≡ length line + 1 + length begins.more =
-    length-append (line ++ byte ∷ []) begins.more ∙ ap (λ n. n + length begins.more) (length_push line byte) in
-    subst (λ (l : List (List ℕ)). IsFirstRefused l (length commands + 1)) (sym split)
-    (IsFirstRefused-line read.ended ((line ++ byte ∷ []) ++ begins.more) begins.after commands read.round
-    (λ task spelled fits. absurd (omega (arith, Spells-short _ task spelled))))
+-- a line was refused
+pub Refuses-line : (before now now' : Option (List ℕ)) (taken taken' line : List ℕ) (commands : List Command) (error : PlanError)
+    → IsRead before now taken commands → ((text : List ℕ) → IsAhead taken now text → ReadsLine text line taken' now') → RefusesLine commands line error
+    → (text : List ℕ) → before ≡ Some text → Refuses text error
+Refuses-line before now now' taken taken' line commands error read reads why = λ text told.
+    let here = read.behind text told in
+    let next = reads here.next here.ahead in
+    refuses_at text read.ended line (lines_of next.rest) commands error (here.split ∙ ap (λ l. read.ended ++ l) next.first) read.round why
 
 -- the refusal of the line with this number
 pub refusal_of_line : (error : PlanError) (commands : List Command) (line : List ℕ) → RefusesAt (length commands + 1) error
@@ -99,49 +91,83 @@ refusal_of_line (Line error) commands line at none = (at.0, at.1, none)
 refusal_of_line (Source count) commands line at none = absurd at
 refusal_of_line Memory commands line at none = absurd at
 
-pub refusal_of_text : (error : PlanError) (number : ℕ) (text : List ℕ) → RefusesAt number error → IsFirstRefused (lines_of text) number → Refuses text error
-refusal_of_text (Line error) number text at first = (at.0, subst (λ (n : ℕ). IsFirstRefused (lines_of text) n) (sym at.1) first)
-refusal_of_text (Source count) number text at first = absurd at
-refusal_of_text Memory number text at first = absurd at
+-- a line is too long, so it is refused
+pub Refuses-long : (before now : Option (List ℕ)) (taken : List ℕ) (commands : List Command) (error : PlanError) → IsRead before now taken commands
+    → ((text : List ℕ) → IsAhead taken now text → BeginsLong 131200 text) → RefusesAt (length commands + 1) error
+    → (text : List ℕ) → before ≡ Some text → Refuses text error
+Refuses-long before now taken commands error read begins at = λ text told.
+    let here = read.behind text told in
+    let next = begins here.next here.ahead in
+    refuses_at text read.ended next.line next.after commands error (here.split ∙ ap (λ l. read.ended ++ l) next.first) read.round
+    (refusal_of_line error commands next.line at (λ task spelled fits. let short = Spells-short next.line task spelled in let long = next.long in absurd (omega arith)))
 
-pub refusal_is_own : (error : PlanError) (number : ℕ) → RefusesAt number error → IsOwn error
-refusal_is_own (Line error) number at = tt
-refusal_is_own (Source count) number at = absurd at
-refusal_is_own Memory number at = absurd at
+-- where two texts are none together, the second is none
+nothing_behind : (front back : List ℕ) → front ++ back ≡ [] → back ≡ []
+nothing_behind [] back e = e
+nothing_behind (byte ∷ front) back e = cc
 
--- what an LF leaves
-pub end_is_read : (result : Result (Unit {0}) PlanError) (text : List ℕ) (commands : List Command) (line : List ℕ) (byte : ℕ) (new : List Command) (rest : List ℕ)
-    → byte ≡ 10 → OnOk result (EndsLine commands line new) → OnOk result (rest ≡ []) → HasRead text commands line → OnOk result (HasRead (text ++ byte ∷ []) new rest)
-end_is_read (Ok value) text commands line byte new rest lf ends empty read =
-    rw (lf, empty) (HasRead-end text commands line new read ends)
-end_is_read (Err error) text commands line byte new rest lf ends empty read = tt
+-- the text has ended
+pub record HasEnded (text : List ℕ) (commands : List Command) (now : Option (List ℕ)) : Type 0 where
+  pub spelled : SpellRound (lines_of text) commands
+  pub left : now ≡ Some []
 
-pub end_refuses : (result : Result (Unit {0}) PlanError) (text rest : List ℕ) (commands : List Command) (line : List ℕ) (byte : ℕ)
-    → byte ≡ 10 → IfErr result (RefusesLine commands line) → HasRead text commands line → IfErr result (Refuses (text ++ byte ∷ rest))
-end_refuses (Ok value) text rest commands line byte lf why read = tt
-end_refuses (Err error) text rest commands line byte lf why read =
-    rw lf (Refuses-end text rest commands line error read why)
+pub HasEnded-end : (before now now' : Option (List ℕ)) (taken taken' : List ℕ) (commands : List Command) → IsRead before now taken commands
+    → ((text : List ℕ) → IsAhead taken now text → (text ≡ []) × IsAhead taken' now' []) → (text : List ℕ) → before ≡ Some text → HasEnded text commands now'
+HasEnded-end before now now' taken taken' commands read ends = λ text told.
+    let here = read.behind text told in
+    let none = ends here.next here.ahead in
+    let all : lines_of text ≡ read.ended = here.split ∙ ap (λ l. read.ended ++ lines_of l) none.0 ∙ append-nil read.ended in
+    record {
+      spelled = subst (λ (l : List (List ℕ)). SpellRound l commands) (sym all) read.round;
+      left = none.1.told ∙ ap (λ l. Some l) (nothing_behind taken' none.1.rest none.1.joined);
+    }
 
-pub line_is_own : (error : PlanError) (commands : List Command) (line : List ℕ) → RefusesLine commands line error → IsOwn error
-line_is_own (Line error) commands line why = tt
-line_is_own (Source count) commands line why = absurd why
-line_is_own Memory commands line why = tt
+-- no line could be read
+pub FailsBehind-read : (before now now' : Option (List ℕ)) (taken : List ℕ) (commands : List Command) (error : ReadError)
+    → IsRead before now taken commands → LeavesRest now now' → ((text : List ℕ) → IsAhead taken now text → FailsInside 131200 text now' error)
+    → (text : List ℕ) → before ≡ Some text → FailsBehind text now' (plan_error error)
+FailsBehind-read before now now' taken commands (SourceFailed count) read leaves fails = λ text told.
+    let here = read.behind text told in
+    let rest = leaves_more before now now' read.leaves leaves text told in
+    record {
+      text = rest.front;
+      behind = record { rest = rest.rest; left = rest.told; joined = rest.joined };
+      ended = read.ended;
+      commands = commands;
+      round = read.round;
+      next = here.next;
+      split = here.split;
+      inside = fails here.next here.ahead;
+    }
+FailsBehind-read before now now' taken commands NoMemory read leaves fails = λ text told. tt
 
-pub end_is_own : (result : Result (Unit {0}) PlanError) (commands : List Command) (line : List ℕ) → IfErr result (RefusesLine commands line) → IfErr result IsOwn
-end_is_own (Ok value) commands line why = tt
-end_is_own (Err error) commands line why = line_is_own error commands line why
+pub Refuses-read : (text : List ℕ) (error : ReadError) → Refuses text (plan_error error)
+Refuses-read text (SourceFailed count) = tt
+Refuses-read text NoMemory = tt
 
--- a text, and a front of the bytes behind it
-pub taken_more : (text bytes : List ℕ) (at : ℕ) → at < length bytes → (text ++ take at bytes) ++ get_or bytes at 0 ∷ [] ≡ text ++ take (at + 1) bytes
-taken_more text bytes at less =
-    append_assoc text (take at bytes) (get_or bytes at 0 ∷ []) ∙ ap (λ front. text ++ front) (sym (take_more bytes at 0 less))
+pub HasErrorCause-read : (before now : ℕ) (error : ReadError) → HasCauseOfRead before now error → HasErrorCause before now (plan_error error)
+HasErrorCause-read before now (SourceFailed count) cause = cause
+HasErrorCause-read before now NoMemory cause = cause
 
-pub taken_whole : (text bytes rest : List ℕ) (at : ℕ) → at < length bytes
-    → (text ++ take at bytes) ++ get_or bytes at 0 ∷ (drop (at + 1) bytes ++ rest) ≡ (text ++ bytes) ++ rest
-taken_whole text bytes rest at less =
-    let back : get_or bytes at 0 ∷ drop (at + 1) bytes ≡ drop at bytes = sym (drop_more bytes at 0 less) in
-    append_assoc text (take at bytes) (get_or bytes at 0 ∷ (drop (at + 1) bytes ++ rest))
-    ∙ ap (λ front. text ++ (take at bytes ++ (front ++ rest))) back
-    ∙ ap (λ front. text ++ front) (sym (append_assoc (take at bytes) (drop at bytes) rest))
-    ∙ ap (λ front. text ++ (front ++ rest)) (take-append-drop at bytes)
-    ∙ sym (append_assoc text bytes rest)
+-- a refused line isn't a failure of the source
+pub FailsBehind-line : (text : List ℕ) (left : Option (List ℕ)) (commands : List Command) (line : List ℕ) (error : PlanError) → RefusesLine commands line error
+    → FailsBehind text left error
+FailsBehind-line text left commands line (Line error) why = tt
+FailsBehind-line text left commands line (Source count) why = absurd why
+FailsBehind-line text left commands line Memory why = tt
+
+pub HasErrorCause-line : (before now : ℕ) (commands : List Command) (line : List ℕ) (error : PlanError) → now ≡ before → RefusesLine commands line error
+    → HasErrorCause before now error
+HasErrorCause-line before now commands line (Line error) kept why = kept
+HasErrorCause-line before now commands line (Source count) kept why = absurd why
+HasErrorCause-line before now commands line Memory kept why = kept
+
+pub FailsBehind-at : (text : List ℕ) (left : Option (List ℕ)) (number : ℕ) (error : PlanError) → RefusesAt number error → FailsBehind text left error
+FailsBehind-at text left number (Line error) at = tt
+FailsBehind-at text left number (Source count) at = absurd at
+FailsBehind-at text left number Memory at = tt
+
+pub HasErrorCause-at : (before now number : ℕ) (error : PlanError) → now ≡ before → RefusesAt number error → HasErrorCause before now error
+HasErrorCause-at before now number (Line error) kept at = kept
+HasErrorCause-at before now number (Source count) kept at = absurd at
+HasErrorCause-at before now number Memory kept at = kept

@@ -6,7 +6,7 @@ use Rattle.std.proofs.lemmas.Fmt.{decimal_injective, length-decimal-le}
 use Rattle.hex.specs.Hex.{decode_of}
 use Rattle.hex.proofs.HexLemmas.{decode_of-ok, decode_of-same}
 use Rattle.era_line.specs.TableLine.{HasNoSpace}
-use Rattle.era_line.proofs.Spelling.{split_same, HasNoSpace-decimal}
+use Rattle.era_line.proofs.CutSteps.{split_same, HasNo-decimal}
 use Rattle.era_model.specs.declared.command.Request.{Request}
 use Rattle.era_model.specs.declared.command.Request.TheVariants.{Checkpoint, List as ListRequest}
 use Rattle.era_model.specs.declared.command.Task.{Task}
@@ -23,7 +23,7 @@ spelled_words line words sector bytes s e =
 pub spelled_parts : (line word digits : List ℕ) (sector : ℕ) (bytes : List ℕ) (s : SpellsWrite line sector bytes) → HasNoSpace word
     → line ≡ codes "0 write " ++ (word ++ 32 ∷ digits) → (word ≡ decimal sector) × (digits ≡ s.digits)
 spelled_parts line word digits sector bytes s none e =
-    split_same word (decimal sector) digits s.digits none (HasNoSpace-decimal sector s.sector_fits)
+    split_same 32 word (decimal sector) digits s.digits none (HasNo-decimal 32 sector (omega arith) s.sector_fits)
     (spelled_words line (word ++ 32 ∷ digits) sector bytes s e)
 
 -- the third byte of a line, by which the command words differ
@@ -34,7 +34,7 @@ third line = get_or line 2 0
 SpellsWrite-same : (line : List ℕ) (sector other : ℕ) (bytes more : List ℕ) → SpellsWrite line sector bytes → SpellsWrite line other more
     → Write sector bytes ≡ Write other more
 SpellsWrite-same line sector other bytes more s t =
-    let parts = spelled_parts line (decimal sector) s.digits other more t (HasNoSpace-decimal sector s.sector_fits) s.text in
+    let parts = spelled_parts line (decimal sector) s.digits other more t (HasNo-decimal 32 sector (omega arith) s.sector_fits) s.text in
     let first : sector ≡ other = decimal_injective sector other s.sector_fits t.sector_fits parts.0 in
     let written : bytes ≡ more = decode_of-same s.digits bytes more s.spelled (ap decode_of parts.1 ∙ t.spelled) in
     cc

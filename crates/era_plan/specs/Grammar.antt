@@ -1,27 +1,12 @@
--- The lines of a text, and the tasks that they spell.
-use Rattle.std.specs.Prelude.{◌≡◌, ℕ, ◌+◌, ◌*◌, ◌%◌, ◌<◌, ◌≤◌, ◌^◌, ◌==◌, if◌then◌else◌, false, List, [], ◌∷◌, ◌++◌, length, codes, decimal, sum_by, Ok}
+-- The tasks that lines spell.
+use Rattle.std.specs.Prelude.{◌≡◌, ℕ, ◌+◌, ◌*◌, ◌%◌, ◌<◌, ◌≤◌, ◌^◌, false, List, [], ◌∷◌, ◌++◌, length, codes, decimal, sum_by, Ok}
 use Rattle.hex.specs.Hex.{decode_of}
+pub use Rattle.era_line.specs.Lines.{lines_of}
 use Rattle.era_model.specs.declared.command.Command.{Command}
 use Rattle.era_model.specs.declared.command.Request.{Request}
 use Rattle.era_model.specs.declared.command.Request.TheVariants.{Checkpoint, List as ListRequest}
 use Rattle.era_model.specs.declared.command.Task.{Task}
 use Rattle.era_model.specs.declared.command.Task.TheVariants.{Write, Read, Ask}
-
--- A byte in front of a text with these lines: an LF ends an empty line there, any other byte begins the first of them.
-abbrev pub byte_before : ℕ → List (List ℕ) → List (List ℕ)
-byte_before byte [] = if byte == 10 then [] ∷ [] else (byte ∷ []) ∷ []
-byte_before byte (line ∷ lines) = if byte == 10 then [] ∷ line ∷ lines else (byte ∷ line) ∷ lines
-
--- The lines of a text: the bytes up to an LF or the end. Nothing behind the last LF is no line.
-abbrev pub lines_of : List ℕ → List (List ℕ)
-lines_of [] = []
-lines_of (byte ∷ text) = byte_before byte (lines_of text)
-
--- The lines of a text that begins with these bytes, none of them an LF, where the rest of it has these lines.
-abbrev pub line_before : List ℕ → List (List ℕ) → List (List ℕ)
-line_before [] lines = lines
-line_before (byte ∷ bytes) [] = (byte ∷ bytes) ∷ []
-line_before (byte ∷ bytes) (line ∷ lines) = ((byte ∷ bytes) ++ line) ∷ lines
 
 -- So many bytes are 1 to 128 whole sectors.
 pub record IsPayload (count : ℕ) : Type 0 where

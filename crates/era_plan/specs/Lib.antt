@@ -1,3 +1,4 @@
 pub mod Grammar
 pub mod Rounds
+pub mod Errors
 pub mod Inside

@@ -3,7 +3,9 @@ use Rattle.std.specs.Prelude.{◌≡◌, ℕ, ◌+◌, ◌-◌, ◌<◌, ◌≤�
 use Rattle.era_base.specs.Faults.{Rose}
 use Rattle.era_base.specs.declared.limits.TheConstants.{MOST_COMMANDS}
 use Rattle.era_model.specs.declared.command.Command.{Command}
-use Rattle.era_plan.specs.Grammar.{lines_of, line_before, command_of, payload_of, SpellEach, IsServed}
+use Rattle.era_line.specs.Lines.{lines_of}
+use Rattle.era_line.specs.Reading.{EndsInside}
+use Rattle.era_plan.specs.Grammar.{command_of, payload_of, SpellEach, IsServed}
 use Rattle.era_plan.specs.declared.round.LineKind.TheVariants.{NotYet}
 use Rattle.era_plan.specs.declared.round.PlanError.{PlanError}
 use Rattle.era_plan.specs.declared.round.PlanError.TheVariants.{Line, Source, Memory}
@@ -34,25 +36,22 @@ pub record IsFirstRefused (lines : List (List ℕ)) (number : ℕ) : Type 0 wher
   pub before : SpellRound (take (number - 1) lines) commands
   pub refused : (more : List Command) → SpellRound (take number lines) more → ⊥
 
--- A text was read: its lines that have ended spell a round of these commands, and these bytes of the next line are there.
-pub record HasRead (text : List ℕ) (commands : List Command) (line : List ℕ) : Type 0 where
-  pub ended : List (List ℕ)
-  pub split : (rest : List ℕ) → lines_of (text ++ rest) ≡ ended ++ line_before line (lines_of rest)
-  pub round : SpellRound ended commands
-
 -- A text is the front of a whole one, and the rest is left.
 pub record LeftBehind (text whole : List ℕ) (now : Option (List ℕ)) : Type 0 where
   pub rest : List ℕ
   pub left : now ≡ Some rest
   pub joined : text ++ rest ≡ whole
 
--- A text was read up to where the source failed, and no line that has ended was refused.
+-- A text was read up to where the source failed: the lines that ended in front of it spell a round, and the source failed inside the next one.
 pub record IsReadInFront (whole : List ℕ) (now : Option (List ℕ)) : Type 0 where
   pub text : List ℕ
   pub behind : LeftBehind text whole now
+  pub ended : List (List ℕ)
   pub commands : List Command
-  pub line : List ℕ
-  pub read : HasRead text commands line
+  pub round : SpellRound ended commands
+  pub next : List ℕ
+  pub split : lines_of whole ≡ ended ++ lines_of next
+  pub inside : EndsInside 131200 next now
 
 -- What an error says of the text where the source failed: no line that ended in front of the failed read is refused.
 abbrev pub FailsBehind : List ℕ → Option (List ℕ) → PlanError → Type 0

@@ -1,14 +1,13 @@
 //! One line of the stream, and the task that it spells.
 
-ghost use Rattle.std.specs.Prelude.{◌≡◌, ◌≢◌, ◌↔◌, ℕ, ◌<◌, ◌^◌, List, ◌∷◌, ◌++◌, length, decimal, Ok, IsTrue, IfSome, IfNone, IfOk};
+ghost use Rattle.std.specs.Prelude.{◌≡◌, ◌↔◌, ℕ, List, length, Ok, IsTrue, IfSome, IfNone, IfOk};
 ghost use Rattle.hex.specs.Hex.{decode_of};
-ghost use Rattle.era_line.specs.TableLine.{HasNoSpace};
 ghost use Rattle.era_model.specs.declared.command.Request.{Request as request_of_line};
 ghost use Rattle.era_model.specs.declared.command.Task.{Task as task_of_line};
 ghost use Rattle.era_plan.specs.Grammar.{IsPayload, Spells, SpellsRequest, SpellsWrite};
 
 use era_base::{Bytes, Memory};
-use era_line::read_decimal;
+use era_line::{read_decimal, read_u32, split_word};
 use era_model::{Request, Task};
 use hex::FromHexError;
 use std::alloc::Global;
@@ -38,7 +37,7 @@ fn read_request(line: &[u8]) -> Option<Request>
         return Some(Request::Checkpoint);
     }
     let word = line.strip_prefix(b"0 list ")?;
-    let since = read_era(word)?;
+    let since = read_u32(word)?;
     Some(Request::List { since, snap: false })
 }
 
@@ -62,25 +61,6 @@ fn read_write(alloc: Global, line: &[u8]) -> Result<Option<(u64, Bytes)>, Memory
         return Ok(None);
     };
     Ok(Some((sector, bytes)))
-}
-
-// What stands before the first space of a text, and what stands behind it.
-fn split_word(text: &[u8]) -> Option<(&[u8], &[u8])>
-    ensures some { IfSome result (λ parts. text.now ≡ parts.0.now ++ 32 ∷ parts.1.now) }
-    ensures first { IfSome result (λ parts. HasNoSpace parts.0.now) }
-    ensures none { IfNone result (HasNoSpace text.now) }
-{
-    let at = text.iter().position(|byte| *byte == b' ')?;
-    let (word, rest) = text.split_at(at);
-    Some((word, rest.split_at(1).1))
-}
-
-// The era, a number below 2^32, of which this is the decimal without leading zeros.
-fn read_era(text: &[u8]) -> Option<u32>
-    ensures some { IfSome result (λ era. text.now ≡ decimal era) }
-    ensures none { IfNone result ((era : ℕ) → era < 2 ^ 32 → text.now ≢ decimal era) }
-{
-    u32::try_from(read_decimal(text)?).ok()
 }
 
 // The bytes that hexadecimal digits of either case spell, where they are 1 to 128 whole sectors.

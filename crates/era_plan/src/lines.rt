@@ -1,14 +1,16 @@
-//! The reader: it takes a source's bytes up to the end or the first refused line.
+//! The round that a source gives: the commands of its lines, up to its end or the first refused line.
 
-ghost use Rattle.std.specs.Prelude.{◌≡◌, ℕ, ◌+◌, ◌<◌, ◌≤◌, List, [], ◌∷◌, ◌++◌, length, vec_len, Some, IfOk, OnOk, IfErr};
+ghost use Rattle.std.specs.Prelude.{◌≡◌, ℕ, ◌+◌, ◌≤◌, List, [], length, Some, IfOk, OnOk, IfErr};
 ghost use Rattle.era_base.specs.declared.limits.TheConstants.{MOST_COMMANDS};
-ghost use Rattle.era_plan.specs.Grammar.{command_of, lines_of, payload_of, payload_of_task};
-ghost use Rattle.era_plan.specs.Rounds.{SpellRound, IsRound, HasRead, Refuses, FailsBehind, HasPlanCause};
-ghost use Rattle.era_plan.specs.Inside.{EndsLine, RefusesAt, IsOwn, RefusesLine, left_to_read};
+ghost use Rattle.era_line.specs.Lines.{lines_of};
+ghost use Rattle.era_plan.specs.Grammar.{command_of, payload_of, payload_of_task};
+ghost use Rattle.era_plan.specs.Rounds.{SpellRound, IsRound, Refuses, FailsBehind, HasPlanCause};
+ghost use Rattle.era_plan.specs.Inside.{EndsLine, RefusesAt, RefusesLine};
 
 use crate::line::read_task;
 use crate::round::{CommandList, LineError, LineKind, PlanError, Round};
 use era_base::{CmdId, MOST_COMMANDS, Memory, Source};
+use era_line::{LineReader, Next};
 use era_model::{Command, Task};
 use std::alloc::Global;
 
@@ -31,99 +33,50 @@ pub fn read_round<S: Source>(alloc: Global, source: &mut S) -> Result<Round, Pla
     ensures round { IfOk result (λ round. IsRound round.commands) }
     ensures cause { HasPlanCause (S.faults source.old) (S.faults source.new) result }
 {
-    let mut reader = Reader::new(alloc);
-    let mut buffer = [0; 4096];
+    let mut lines = LineReader::new(alloc);
+    let mut line = room_for_line(alloc)?;
+    let mut gathered = Gathered::new(alloc);
     loop {
-        let Ok(count) = source.take(&mut buffer) else {
-            return Err(PlanError::Source(source.faults()));
-        };
-        if count == 0 {
-            return reader.finish(alloc);
+        match lines.next(source, &mut line, LONGEST_LINE)? {
+            Next::Line => gathered.add_line(alloc, &line)?,
+            Next::Long => return Err(gathered.refusal()),
+            Next::End => return Ok(gathered.finish()),
         }
-        reader.feed(alloc, buffer.split_at(count).0)?;
     }
 }
 
-// What was read: the commands of the lines that have ended, and the bytes of the line that hasn't.
+// Room for the longest line, so that lines never take more.
+fn room_for_line(alloc: Global) -> Result<Vec<u8>, Memory> {
+    Ok(Vec::with_capacity(alloc, LONGEST_LINE)?)
+}
+
+// The commands of the lines that have ended, and how many bytes they have together.
 #[derive(Drop)]
-struct Reader {
+struct Gathered {
     commands: CommandList,
     payload: usize,
-    line: Vec<u8>,
     ghost counted: { payload ≡ payload_of commands },
     ghost most: { payload ≤ 67108864 },
     ghost count: { length commands ≤ MOST_COMMANDS },
-    ghost short: { vec_len line ≤ 131200 },
 }
 
-impl Reader {
-    // Nothing is read yet.
-    fn new(alloc: Global) -> Reader
-        ensures commands { result.commands ≡ [] }
-        ensures line { result.line.items ≡ [] }
+impl Gathered {
+    // No line has ended yet.
+    fn new(alloc: Global) -> Gathered
+        ensures { result.commands ≡ [] }
     {
-        Reader {
+        Gathered {
             commands: CommandList::new(alloc),
             payload: 0,
-            line: Vec::new(alloc),
         }
     }
 
-    // Reads the next bytes. After an error nothing more is to be read.
-    fn feed(&mut self, alloc: Global, bytes: &[u8]) -> Result<(), PlanError>
-        ensures ok { (text : List ℕ) → HasRead text self.old.commands self.old.line.items
-            → OnOk result (HasRead (text ++ bytes.now) self.new.commands self.new.line.items) }
-        ensures refused { (text rest : List ℕ) → HasRead text self.old.commands self.old.line.items
-            → IfErr result (Refuses (text ++ bytes.now ++ rest)) }
-        ensures own { IfErr result IsOwn }
-        ensures less { OnOk result (left_to_read self.new.commands self.new.line.items + length
-            bytes.now
-            ≤ left_to_read self.old.commands self.old.line.items) }
+    // Adds the command of a line, which is refused where it spells none or there would be too much.
+    fn add_line(&mut self, alloc: Global, line: &[u8]) -> Result<(), PlanError>
+        ensures ok { OnOk result (EndsLine self.old.commands line.now self.new.commands) }
+        ensures refused { IfErr result (RefusesLine self.old.commands line.now) }
     {
-        for byte in bytes {
-            self.push(alloc, *byte)?;
-        }
-        Ok(())
-    }
-
-    // Reads one more byte: an LF ends the line, any other byte belongs to it.
-    fn push(&mut self, alloc: Global, byte: u8) -> Result<(), PlanError>
-        ensures ok { (text : List ℕ) → HasRead text self.old.commands self.old.line.items
-            → OnOk result (HasRead (text ++ byte ∷ []) self.new.commands self.new.line.items) }
-        ensures refused { (text rest : List ℕ) → HasRead text self.old.commands self.old.line.items
-            → IfErr result (Refuses (text ++ byte ∷ rest)) }
-        ensures own { IfErr result IsOwn }
-        ensures less { OnOk result (left_to_read self.new.commands self.new.line.items
-            < left_to_read self.old.commands self.old.line.items) }
-    {
-        if byte == b'\n' {
-            return self.end_line(alloc);
-        }
-        if self.line.len() >= LONGEST_LINE {
-            return Err(self.refusal());
-        }
-        self.push_to_line(byte)?;
-        Ok(())
-    }
-
-    // Adds a byte to the line.
-    fn push_to_line(&mut self, byte: u8) -> Result<(), Memory>
-        requires { vec_len self.old.line < 131200 }
-        ensures commands { self.new.commands ≡ self.old.commands }
-        ensures line { OnOk result (self.new.line.items ≡ self.old.line.items ++ byte ∷ []) }
-    {
-        self.line.push(byte)?;
-        Ok(())
-    }
-
-    // Ends the line, which is refused where it spells no command or there would be too much.
-    fn end_line(&mut self, alloc: Global) -> Result<(), PlanError>
-        ensures ok { OnOk result (EndsLine self.old.commands self.old.line.items
-            self.new.commands) }
-        ensures line { OnOk result (self.new.line.items ≡ []) }
-        ensures refused { IfErr result (RefusesLine self.old.commands self.old.line.items) }
-    {
-        let Some(task) = read_task(alloc, self.line.as_slice())? else {
+        let Some(task) = read_task(alloc, line)? else {
             return Err(self.refusal());
         };
         let payload = self.payload + count_payload(&task);
@@ -133,7 +86,6 @@ impl Reader {
         let command = self.command(task);
         self.commands.push(command)?;
         self.payload = payload;
-        self.line.clear();
         Ok(())
     }
 
@@ -152,20 +104,13 @@ impl Reader {
         }
     }
 
-    // The round, where the input has ended. What is left of a line without an LF is a line.
-    fn finish(mut self, alloc: Global) -> Result<Round, PlanError>
-        ensures ok { (text : List ℕ) → HasRead text self.commands self.line.items
-            → IfOk result (λ round. SpellRound (lines_of text) round.commands) }
-        ensures refused { (text : List ℕ) → HasRead text self.commands self.line.items
-            → IfErr result (Refuses text) }
-        ensures own { IfErr result IsOwn }
+    // The round of all commands.
+    fn finish(self) -> Round
+        ensures { result.commands ≡ self.commands }
     {
-        if !self.line.is_empty() {
-            self.end_line(alloc)?;
-        }
-        Ok(Round {
+        Round {
             commands: self.commands,
-        })
+        }
     }
 
     // The refusal of the line.

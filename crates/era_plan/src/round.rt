@@ -3,6 +3,7 @@
 ghost use Rattle.std.specs.Prelude.{◌≡◌};
 
 use era_base::{Items, Memory};
+use era_line::ReadError;
 use era_model::Command;
 use thiserror::Error;
 
@@ -50,5 +51,18 @@ impl From<Memory> for PlanError {
 
     fn from(_: Memory) -> Self {
         PlanError::Memory
+    }
+}
+
+impl From<ReadError> for PlanError {
+    ghost use Rattle.era_plan.specs.Errors.{plan_error};
+
+    ghost from_gives = { λ reason error. error ≡ plan_error reason };
+
+    fn from(reason: ReadError) -> Self {
+        match reason {
+            ReadError::Source(count) => PlanError::Source(count),
+            ReadError::Memory => PlanError::Memory,
+        }
     }
 }

@@ -3,20 +3,19 @@ use Rattle.era_plan.specs.Inside.{FitsBehind}
 use Rattle.era_model.specs.declared.command.Task.{Task}
 use Rattle.era_plan.proofs.Spelling.{Spells-same}
 use Rattle.era_plan.proofs.ReadSteps.{refusal_of_line}
-use Rattle.era_plan.proofs.lines.Reader.end_line.Goals as goal
+use Rattle.era_plan.proofs.lines.Gathered.add_line.Goals as goal
 
 pub returns-in_default-clause-refused : goal.returns-in_default-clause-refused
 returns-in_default-clause-refused c =
     let none = rw c.in_default.is at c.in_ok-task.ensures.none in
-    refusal_of_line c.refusal.result c.args.self.now.commands c.args.self.now.line.items c.refusal.ensures
-    (λ task spelled fits. none task (rw c.as_slice.ensures.value spelled))
+    refusal_of_line c.refusal.result c.args.self.now.commands c.args.line.now c.refusal.ensures (λ task spelled fits. none task spelled)
 
 pub returns-then-len-clause-refused :
     goal.returns-then-len-clause-refused
 returns-then-len-clause-refused c =
     let commands = c.args.self.now.commands in
-    let line = c.args.self.now.line.items in
-    let here = rw (c.in-Some.is, c.as_slice.ensures.value) at c.in_ok-task.ensures.some in
+    let line = c.args.line.now in
+    let here = rw c.in-Some.is at c.in_ok-task.ensures.some in
     refusal_of_line c.refusal-then-len.result commands line c.refusal-then-len.ensures
     (λ task spelled fits.
     let same : task ≡ c.in-Some.task = Spells-same line task c.in-Some.task spelled here in
