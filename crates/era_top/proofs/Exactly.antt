@@ -1,36 +1,36 @@
 -- The number of a call, by what its words and the origin's size say.
 use Rattle.std.proofs.Common.{◌≡◌, ◌⊎◌, inl, inr, ℕ, ◌<◌, List, refl, ap, sym, ◌∙◌, subst, arith}
-use Rattle.std.specs.Prelude.{decimal, Option, Some}
-use Rattle.std.proofs.lemmas.Fmt.{decimal_injective}
+use Rattle.std.specs.Prelude.{Some}
 use Rattle.era_base.specs.declared.geometry.Geometry.{Geometry}
 use Rattle.era_base.specs.declared.geometry.GeomError.{GeomError}
 use Rattle.era_line.specs.declared.table_line.TableLine.{TableLine}
 use Rattle.era_top.specs.declared.refusal.Refusal.{Refusal}
-use Rattle.era_top.specs.declared.refusal.Refusal.TheVariants.{NoCommand, NoRoom, NoGeometry, BayFault, TooSmall}
+use Rattle.era_top.specs.declared.refusal.Refusal.TheVariants.{NoCommand, NotYet, NoRoom, NoGeometry, BayFault, TooSmall}
 use Rattle.era_top.specs.declared.status.Status.{Status}
 use Rattle.era_top.specs.declared.status.Status.TheVariants.{Done, Usage, Fault, Memory, Refused, Sink}
 use Rattle.era_top.specs.Around.{DiskFacts, BayAround, StreamsAround}
 use Rattle.era_top.specs.Exactly.{EndsExactly, EndsWith}
-use Rattle.era_top.specs.Needs.{AnswersNeed, IsNumberRefusal, TellsNeed}
 use Rattle.era_top.specs.Refusals.{refusal_status}
 use Rattle.era_top.specs.Reports.{Report, Refuses, Needs, Serves, Reports, AsksFor, IsCauseOf, IsNoGeometry, IsReported}
 use Rattle.era_top.specs.Top.{number_of}
-use Rattle.era_top.specs.Words.{GiveNumbers, IsNeed, IsNoCommand}
-use Rattle.era_top.proofs.Faultless.{geometry-never, same_line, serve-not_need}
+use Rattle.era_top.specs.Words.{GiveNumbers, IsNeed, IsNotYet}
+use Rattle.era_words.specs.Words.{IsNoJob}
+use Rattle.era_words.specs.declared.job.Job.TheVariants as job
+use Rattle.era_words.proofs.OneJob.{one_job}
+use Rattle.era_top.proofs.Faultless.{geometry-never, same_line, serve-not_need, served-serve, served-need}
 
 -- words that give numbers are a command
-numbers-command : (words : List (List ℕ)) (sectors size : ℕ) → GiveNumbers words sectors size → IsNoCommand words → ⊥
-numbers-command words sectors size (inl serve) none = none.0 serve.0 serve.1
-numbers-command words sectors size (inr need) none = none.1 sectors size need
+numbers-command : (words : List (List ℕ)) (sectors size : ℕ) → GiveNumbers words sectors size → IsNoJob words → ⊥
+numbers-command words sectors size (inl serve) none = none (job.Serve serve.0 4 0) serve.1
+numbers-command words sectors size (inr need) none = none (job.Need sectors size) need
 
 -- words give their numbers once
 pub same-need : (words : List (List ℕ)) (sectors size sectors' size' : ℕ) → IsNeed words sectors size → IsNeed words sectors' size' → (sectors' ≡ sectors) × (size' ≡ size)
 same-need words sectors size sectors' size' need need' =
-    let a = need.three in
-    let b = need'.three in
-    let first : decimal sectors' ≡ decimal sectors = cc in
-    let second : decimal size' ≡ decimal size = cc in
-    (decimal_injective sectors' sectors need'.sectors_fit need.sectors_fit first, decimal_injective size' size need'.block_fits need.block_fits second)
+    let same = one_job words (job.Need sectors' size') (job.Need sectors size) need' need in
+    let length : sectors' ≡ sectors = cc in
+    let block : size' ≡ size = cc in
+    (length, block)
 
 same-numbers : (words : List (List ℕ)) (sectors size sectors' size' : ℕ) → GiveNumbers words sectors size → GiveNumbers words sectors' size' → (sectors' ≡ sectors) × (size' ≡ size)
 same-numbers words sectors size sectors' size' (inl serve) (inl serve') =
@@ -39,6 +39,11 @@ same-numbers words sectors size sectors' size' (inl serve) (inl serve') =
 same-numbers words sectors size sectors' size' (inl serve) (inr need') = absurd (serve-not_need words serve.0 sectors' size' serve.1 need')
 same-numbers words sectors size sectors' size' (inr need) (inl serve') = absurd (serve-not_need words serve'.0 sectors size serve'.1 need)
 same-numbers words sectors size sectors' size' (inr need) (inr need') = same-need words sectors size sectors' size' need need'
+
+-- numbers are those of what is served
+served-numbers : (words : List (List ℕ)) (sectors size : ℕ) → IsNotYet words → GiveNumbers words sectors size → ⊥
+served-numbers words sectors size not_yet (inl serve) = served-serve words serve.0 not_yet serve.1
+served-numbers words sectors size not_yet (inr need) = served-need words sectors size not_yet need
 
 -- numbers of a geometry aren't refused as none
 geometry-refused : (words : List (List ℕ)) (geometry : Geometry) (error : GeomError) (sectors size : ℕ) → GiveNumbers words geometry.sectors geometry.block_sectors → GiveNumbers words sectors size
@@ -56,20 +61,35 @@ abbrev StatusIs : Status → Status → Type 0
 StatusIs status wanted = (status ≡ wanted) ⊎ (status ≡ Memory)
 
 module _ (D : Type 0) (words : List (List ℕ)) (contents : List ℕ) (disks : DiskFacts D) (bay : BayAround D) (streams : StreamsAround) where
-  no_command-refusal : (refusal : Refusal) → IsNoCommand words → IsCauseOf words bay refusal → StatusIs (refusal_status refusal) Usage
+  no_command-refusal : (refusal : Refusal) → IsNoJob words → IsCauseOf words bay refusal → StatusIs (refusal_status refusal) Usage
   no_command-refusal NoCommand none cause = inl refl
+  no_command-refusal NotYet none cause = absurd (none cause.0.0 cause.0.1)
   no_command-refusal NoRoom none cause = inr refl
   no_command-refusal (NoGeometry error size) none cause = absurd (numbers-command words cause.0.0 size cause.0.1 none)
-  no_command-refusal (BayFault count) none cause = absurd (none.0 cause.0.0 cause.0.2.serve)
-  no_command-refusal (TooSmall have need) none cause = absurd (none.0 cause.0.0 cause.0.2.serve)
+  no_command-refusal (BayFault count) none cause = absurd (none (job.Serve cause.0.0 4 0) cause.0.2.serve)
+  no_command-refusal (TooSmall have need) none cause = absurd (none (job.Serve cause.0.0 4 0) cause.0.2.serve)
 
-  no_command-status : (report : Report) (ended : Status) → IsNoCommand words → IsReported words contents disks bay streams report ended → StatusIs ended Usage
+  no_command-status : (report : Report) (ended : Status) → IsNoJob words → IsReported words contents disks bay streams report ended → StatusIs ended Usage
   no_command-status (Refuses refusal) ended none right = subst (λ s. StatusIs s Usage) (sym right.0) (no_command-refusal refusal none right.1)
-  no_command-status (Needs blocks) ended none right = absurd (none.1 right.1.geometry.sectors right.1.geometry.block_sectors right.1.asked)
-  no_command-status (Serves session) ended none right = absurd (none.0 right.line right.asked.serve)
+  no_command-status (Needs blocks) ended none right = absurd (none (job.Need right.1.geometry.sectors right.1.geometry.block_sectors) right.1.asked)
+  no_command-status (Serves session) ended none right = absurd (none (job.Serve right.line 4 0) right.asked.serve)
+
+  not_yet-refusal : (refusal : Refusal) → IsNotYet words → IsCauseOf words bay refusal → StatusIs (refusal_status refusal) Usage
+  not_yet-refusal NoCommand not_yet cause = absurd (cause.0 not_yet.0 not_yet.1)
+  not_yet-refusal NotYet not_yet cause = inl refl
+  not_yet-refusal NoRoom not_yet cause = inr refl
+  not_yet-refusal (NoGeometry error size) not_yet cause = absurd (served-numbers words cause.0.0 size not_yet cause.0.1)
+  not_yet-refusal (BayFault count) not_yet cause = absurd (served-serve words cause.0.0 not_yet cause.0.2.serve)
+  not_yet-refusal (TooSmall have need) not_yet cause = absurd (served-serve words cause.0.0 not_yet cause.0.2.serve)
+
+  not_yet-status : (report : Report) (ended : Status) → IsNotYet words → IsReported words contents disks bay streams report ended → StatusIs ended Usage
+  not_yet-status (Refuses refusal) ended not_yet right = subst (λ s. StatusIs s Usage) (sym right.0) (not_yet-refusal refusal not_yet right.1)
+  not_yet-status (Needs blocks) ended not_yet right = absurd (served-need words right.1.geometry.sectors right.1.geometry.block_sectors not_yet right.1.asked)
+  not_yet-status (Serves session) ended not_yet right = absurd (served-serve words right.line not_yet right.asked.serve)
 
   no_geometry-refusal : (refusal : Refusal) (error : GeomError) (sectors size : ℕ) → GiveNumbers words sectors size → IsNoGeometry error sectors size → IsCauseOf words bay refusal → StatusIs (refusal_status refusal) Refused
   no_geometry-refusal NoCommand error sectors size numbers none cause = absurd (numbers-command words sectors size numbers cause.0)
+  no_geometry-refusal NotYet error sectors size numbers none cause = absurd (served-numbers words sectors size cause.0 numbers)
   no_geometry-refusal NoRoom error sectors size numbers none cause = inr refl
   no_geometry-refusal (NoGeometry other told) error sectors size numbers none cause = inl refl
   no_geometry-refusal (BayFault count) error sectors size numbers none cause = absurd (geometry-refused words cause.0.1 error sectors size (asked-numbers words cause.0.0 cause.0.1 cause.0.2) numbers none)
@@ -81,7 +101,8 @@ module _ (D : Type 0) (words : List (List ℕ)) (contents : List ℕ) (disks : D
   no_geometry-status (Serves session) ended error sectors size numbers none right = absurd (geometry-refused words right.geometry error sectors size (asked-numbers words right.line right.geometry right.asked) numbers none)
 
   too_small-refusal : (refusal : Refusal) (line : TableLine) (geometry : Geometry) → AsksFor words line geometry → IsCauseOf words bay refusal → StatusIs (refusal_status refusal) Refused ⊎ (refusal_status refusal ≡ Fault)
-  too_small-refusal NoCommand line geometry asked cause = absurd (cause.0.0 line asked.serve)
+  too_small-refusal NoCommand line geometry asked cause = absurd (cause.0 (job.Serve line 4 0) asked.serve)
+  too_small-refusal NotYet line geometry asked cause = absurd (served-serve words line cause.0 asked.serve)
   too_small-refusal NoRoom line geometry asked cause = inl (inr refl)
   too_small-refusal (NoGeometry error size) line geometry asked cause = inl (inl refl)
   too_small-refusal (BayFault count) line geometry asked cause = inr refl
@@ -98,6 +119,19 @@ module _ (D : Type 0) (words : List (List ℕ)) (contents : List ℕ) (disks : D
       let known : Some have ≡ Some right.origin.have = sym told ∙ ap bay.sizes (sym same.origin) ∙ right.origin.size in
       let is : have ≡ right.origin.have = cc in
       absurd (omega (arith, is, small, right.origin.enough, same.sectors))
+
+  needed-refusal : (refusal : Refusal) (geometry : Geometry) → IsNeed words geometry.sectors geometry.block_sectors → IsCauseOf words bay refusal → StatusIs (refusal_status refusal) Done
+  needed-refusal NoCommand geometry asked cause = absurd (cause.0 (job.Need geometry.sectors geometry.block_sectors) asked)
+  needed-refusal NotYet geometry asked cause = absurd (served-need words geometry.sectors geometry.block_sectors cause.0 asked)
+  needed-refusal NoRoom geometry asked cause = inr refl
+  needed-refusal (NoGeometry error size) geometry asked cause = absurd (geometry-refused words geometry error cause.0.0 size (inr asked) cause.0.1 cause.0.2)
+  needed-refusal (BayFault count) geometry asked cause = absurd (serve-not_need words cause.0.0 geometry.sectors geometry.block_sectors cause.0.2.serve asked)
+  needed-refusal (TooSmall have need) geometry asked cause = absurd (serve-not_need words cause.0.0 geometry.sectors geometry.block_sectors cause.0.2.serve asked)
+
+  needed-status : (report : Report) (ended : Status) (geometry : Geometry) → IsNeed words geometry.sectors geometry.block_sectors → IsReported words contents disks bay streams report ended → StatusIs ended Done
+  needed-status (Refuses refusal) ended geometry asked right = subst (λ s. StatusIs s Done) (sym right.0) (needed-refusal refusal geometry asked right.1)
+  needed-status (Needs blocks) ended geometry asked right = inl right.0
+  needed-status (Serves session) ended geometry asked right = absurd (serve-not_need words right.line geometry.sectors geometry.block_sectors right.asked.serve asked)
 
   -- the number of the wanted status, of refused memory or of a failed sink
   ends : (status ended wanted : Status) → (status ≡ ended) ⊎ (status ≡ Sink) → StatusIs ended wanted → EndsWith (number_of status) (number_of wanted)
@@ -118,36 +152,16 @@ module _ (D : Type 0) (words : List (List ℕ)) (contents : List ℕ) (disks : D
 
   -- and so the call ends with the number that its words ask for
   pub ends-exactly : (status : Status) (number : ℕ) → number ≡ number_of status → Reports words contents disks bay streams status
-      → ((geometry : Geometry) → IsNeed words geometry.sectors geometry.block_sectors → (status ≡ Done) ⊎ (status ≡ Sink)) → EndsExactly words bay.sizes number
-  ends-exactly status number is reports needs = record {
+      → EndsExactly words bay.sizes number
+  ends-exactly status number is reports = record {
     no_command = λ none. subst (λ n. EndsWith n 2) (sym is)
         (ends status reports.ended Usage (printed-status status reports) (no_command-status reports.report reports.ended none reports.right));
+    not_yet = λ not_yet. subst (λ n. EndsWith n 2) (sym is)
+        (ends status reports.ended Usage (printed-status status reports) (not_yet-status reports.report reports.ended not_yet reports.right));
     no_geometry = λ error sectors size numbers none. subst (λ n. EndsWith n 6) (sym is)
         (ends status reports.ended Refused (printed-status status reports) (no_geometry-status reports.report reports.ended error sectors size numbers none reports.right));
     too_small = λ line geometry have asked told small. subst (λ n. EndsWith n 6 ⊎ (n ≡ 4)) (sym is)
         (small-ends status reports.ended (printed-status status reports) (too_small-status reports.report reports.ended line geometry have asked told small reports.right));
-    need = λ geometry need. elim (needs geometry need) [
-      | inl done ↦ inl (is ∙ ap number_of done)
-      | inr failed ↦ inr (is ∙ ap number_of failed)
-    ];
+    need = λ geometry asked. subst (λ n. EndsWith n 0) (sym is)
+        (ends status reports.ended Done (printed-status status reports) (needed-status reports.report reports.ended geometry asked reports.right));
   }
-
--- the status of a need whose numbers are a geometry
-pub need-status : (words : List (List ℕ)) (sectors size : ℕ) (given given' : Option (List ℕ)) (status : Status) → IsNeed words sectors size → TellsNeed sectors size given given' status
-    → (geometry : Geometry) → IsNeed words geometry.sectors geometry.block_sectors → (status ≡ Done) ⊎ (status ≡ Sink)
-need-status words sectors size given given' status need tells geometry asked = elim tells.printed [
-  | inl all ↦ inl (all.0 ∙ done tells.report tells.ended tells.right)
-  | inr some ↦ inr some.0
-]
-  where
-    no_number : (refusal : Refusal) → IsNumberRefusal sectors size refusal → ⊥
-    no_number (NoGeometry error told) right = geometry-refused words geometry error sectors size (inr asked) (inr need) right.1
-    no_number NoCommand right = right
-    no_number NoRoom right = right
-    no_number (BayFault count) right = right
-    no_number (TooSmall have needed) right = right
-
-    done : (report : Report) (ended : Status) → AnswersNeed sectors size report ended → ended ≡ Done
-    done (Refuses refusal) ended right = absurd (no_number refusal right.1)
-    done (Needs blocks) ended right = right.0
-    done (Serves session) ended right = absurd right

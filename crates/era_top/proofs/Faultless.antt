@@ -7,12 +7,10 @@ use Rattle.era_base.specs.declared.geometry.GeomError.TheVariants.{BadBlockSize,
 use Rattle.era_base.specs.Faults.{Rose, NoneRose}
 use Rattle.era_base.specs.Geometry.{IsBlockSize, blocks_of}
 use Rattle.era_line.specs.declared.table_line.TableLine.{TableLine}
-use Rattle.era_line.specs.TableLine.{IsTableLine}
-use Rattle.era_line.proofs.Spelling.{one_line}
 use Rattle.era_plan.specs.Grammar.{lines_of}
 use Rattle.era_plan.proofs.RoundSteps.{SpellRound-take}
 use Rattle.era_top.specs.declared.refusal.Refusal.{Refusal}
-use Rattle.era_top.specs.declared.refusal.Refusal.TheVariants.{NoCommand, NoRoom, NoGeometry, BayFault, TooSmall}
+use Rattle.era_top.specs.declared.refusal.Refusal.TheVariants.{NoCommand, NotYet, NoRoom, NoGeometry, BayFault, TooSmall}
 use Rattle.era_top.specs.declared.status.Status.{Status}
 use Rattle.era_top.specs.declared.status.Status.TheVariants.{Done, Usage, Line, Fault, Memory, Refused, Source, Sink}
 use Rattle.era_top.specs.Around.{DiskFacts, BayAround, StreamsAround, SomeCountRose, IsFaultless}
@@ -20,7 +18,9 @@ use Rattle.era_top.specs.Refusals.{refusal_status}
 use Rattle.era_top.specs.Reports.{Report, Refuses, Needs, Serves, Reports, IsReported, IsCauseOf, IsNoGeometry}
 use Rattle.era_top.specs.Sessions.{Session, Around, EndsBy}
 use Rattle.era_top.specs.Top.{IsServable, number_of}
-use Rattle.era_top.specs.Words.{IsServe, IsNeed}
+use Rattle.era_top.specs.Words.{IsServe, IsNeed, IsNotYet, IsUnserved}
+use Rattle.era_words.specs.declared.job.Job.TheVariants as job
+use Rattle.era_words.proofs.OneJob.{one_job}
 
 -- a count that didn't rise
 pub not-rose : (before now : ℕ) → NoneRose before now → Rose before now → ⊥
@@ -35,12 +35,13 @@ pub record SameLine (line line' : TableLine) : Type 0 where
 -- words have one table line
 pub same_line : (words : List (List ℕ)) (line line' : TableLine) → IsServe words line → IsServe words line' → SameLine line line'
 same_line words line line' serve serve' =
-    let two = serve.two in
-    let two' = serve'.two in
-    let text : serve'.text ≡ serve.text = cc in
-    let same = one_line serve.text line'.length line.length line'.meta line'.origin line.meta line.origin line'.block_sectors line.block_sectors
-    (subst (λ (text : List ℕ). IsTableLine text line'.length line'.meta line'.origin line'.block_sectors) text serve'.table) serve.table in
-    record { sectors = same.0; origin = same.2; block_sectors = same.3 }
+    let same = one_job words (job.Serve line' 4 0) (job.Serve line 4 0) serve' serve in
+    let is : line' ≡ line = cc in
+    record {
+      sectors = ap (λ (l : TableLine). l.length) is;
+      origin = ap (λ (l : TableLine). l.origin) is;
+      block_sectors = ap (λ (l : TableLine). l.block_sectors) is;
+    }
 
 -- a status that something was refused
 abbrev pub IsRefusing : Status → Type 0
@@ -60,12 +61,21 @@ geometry-never (TooManyBlocks count) sectors size sectors' size' s b is some lim
 
 -- a serve command is no need command
 pub serve-not_need : (words : List (List ℕ)) (line : TableLine) (sectors size : ℕ) → IsServe words line → IsNeed words sectors size → ⊥
-serve-not_need words line sectors size serve need = let a = serve.two in let b = need.three in absurd (cc)
+serve-not_need words line sectors size serve need = let same = one_job words (job.Serve line 4 0) (job.Need sectors size) serve need in cc
+
+-- a session without options is served
+pub served-serve : (words : List (List ℕ)) (line : TableLine) → IsNotYet words → IsServe words line → ⊥
+served-serve words line (other, is, unserved) serve = subst IsUnserved (one_job words other (job.Serve line 4 0) is serve) unserved (refl, refl)
+
+-- a need is served
+pub served-need : (words : List (List ℕ)) (sectors size : ℕ) → IsNotYet words → IsNeed words sectors size → ⊥
+served-need words sectors size (other, is, unserved) need = subst IsUnserved (one_job words other (job.Need sectors size) is need) unserved
 
 -- what can be served isn't refused
 pub refusal-never : (D : Type 0) (words : List (List ℕ)) (bay : BayAround D) (left : Option (List ℕ)) (refusal : Refusal)
     → IsServable words bay.sizes left → IsRefusing (refusal_status refusal) → IsCauseOf words bay refusal → ⊥
-refusal-never D words bay left NoCommand servable refusing cause = cause.0.0 servable.line servable.serve
+refusal-never D words bay left NoCommand servable refusing cause = cause.0 (job.Serve servable.line 4 0) servable.serve
+refusal-never D words bay left NotYet servable refusing cause = served-serve words servable.line cause.0 servable.serve
 refusal-never D words bay left NoRoom servable refusing cause = refusing
 refusal-never D words bay left (NoGeometry error size) servable refusing cause = elim cause.0.1 [
   | inl serve ↦

@@ -20,7 +20,6 @@ pub mod Causes
 pub mod LastLoan
 pub mod RefusalTexts
 pub mod SectorLists
-pub mod WordLists
 pub mod Serving
 pub mod Needing
 pub mod Faultless

@@ -2,7 +2,7 @@
 use Rattle.std.proofs.Common.{◌≡◌, ℕ, ◌∙◌, List, inr, ap, sym, subst}
 use Rattle.era_base.specs.Geometry.{blocks_of, need_of}
 use Rattle.era_top.specs.declared.refusal.Refusal.{Refusal}
-use Rattle.era_top.specs.declared.refusal.Refusal.TheVariants.{NoCommand, NoRoom, NoGeometry, BayFault, TooSmall}
+use Rattle.era_top.specs.declared.refusal.Refusal.TheVariants.{NoCommand, NotYet, NoRoom, NoGeometry, BayFault, TooSmall}
 use Rattle.era_top.specs.declared.status.Status.{Status}
 use Rattle.era_top.specs.Around.{DiskFacts, BayAround, StreamsAround}
 use Rattle.era_top.specs.Needs.{AnswersNeed, IsNumberRefusal, TellsNeed}
@@ -15,6 +15,7 @@ number-cause : (D : Type 0) (words : List (List ℕ)) (bay : BayAround D) (secto
 number-cause D words bay sectors size (NoGeometry error told) need faults right =
     ((sectors, subst (λ n. GiveNumbers words sectors n) (sym right.0) (inr need), subst (λ n. IsNoGeometry error sectors n) (sym right.0) right.1), faults)
 number-cause D words bay sectors size NoCommand need faults right = absurd right
+number-cause D words bay sectors size NotYet need faults right = absurd right
 number-cause D words bay sectors size NoRoom need faults right = absurd right
 number-cause D words bay sectors size (BayFault count) need faults right = absurd right
 number-cause D words bay sectors size (TooSmall have needed) need faults right = absurd right

@@ -7,12 +7,14 @@ use Rattle.era_base.specs.Bay.{Loan, new_loan, ended_loan, KeepsSizes, HasConten
 use Rattle.era_base.specs.Bytes.{part}
 use Rattle.era_base.specs.Disk.{Place}
 use Rattle.era_base.specs.Faults.{Rose}
+use Rattle.era_line.specs.declared.table_line.TableLine.{TableLine}
 use Rattle.era_top.specs.declared.status.Status.{Status}
 use Rattle.era_top.specs.declared.status.Status.TheVariants.{Fault, Source}
 use Rattle.era_top.specs.Around.{DiskFacts, BayAround, StreamsAround, SomeCountRose, AllReturned}
 use Rattle.era_top.specs.Openings.{IsOpened, HasServed}
 use Rattle.era_top.specs.Rises.{HasRiseFor}
 use Rattle.era_top.specs.Reports.{Reports, Serves, EndsAsJournal}
+use Rattle.era_top.specs.Words.{IsServe}
 use Rattle.era_top.proofs.LastLoan.{slice_get-last, slice_get-from_last}
 use Rattle.era_top.proofs.SectorLists.{seen-is}
 
@@ -47,7 +49,7 @@ last_part bay between = record {
   faults' = bay.faults';
 }
 
-module _ (D : Type 0) (words : List (List ℕ)) (disks : DiskFacts D) (bay : BayAround D) (between : BayBetween D) (streams : StreamsAround)
+module _ (D : Type 0) (line : TableLine) (disks : DiskFacts D) (bay : BayAround D) (between : BayBetween D) (streams : StreamsAround)
     (geometry : Geometry) (lent : D) (result : Status) where
   -- only the origin's sectors read otherwise
   others-but : (origin : List ℕ) (sectors length : ℕ) (place : Place) → place ≡ record { device = origin; first = 0 } → sectors ≡ length
@@ -57,10 +59,10 @@ module _ (D : Type 0) (words : List (List ℕ)) (disks : DiskFacts D) (bay : Bay
       (subst (λ (p : Place). SameReadsBut p.device p.first sectors between.reads bay.reads') is others)
 
   -- the origin reads in the end as the journal of the session says
-  pub ends_as_journal : (contents : List ℕ) (opened : IsOpened words disks (first_part bay between) geometry lent)
+  pub ends_as_journal : (contents : List ℕ) (opened : IsOpened line disks (first_part bay between) geometry lent)
       (served : HasServed geometry contents disks (last_part bay between) streams bay.loans lent result)
-      → disks.tells ≡ true → HasContent bay.reads opened.line.origin opened.line.length contents
-      → EndsAsJournal bay opened.line geometry served.goes.session
+      → disks.tells ≡ true → HasContent bay.reads line.origin line.length contents
+      → EndsAsJournal bay line geometry served.goes.session
   ends_as_journal contents opened served tells has =
       let origin = opened.taken.origin in
       let content = served.content tells in
@@ -72,32 +74,32 @@ module _ (D : Type 0) (words : List (List ℕ)) (disks : DiskFacts D) (bay : Bay
               let at_place = content sector (subst (λ (n : ℕ). sector < n) (sym origin.sectors) below) in
               let at_origin = subst (λ (place : Place). bay.reads' place.device (place.first + sector) ≡ Some (part (sector * 512) 512 (disks.history served.back).now.seen)) origin.place at_place in
               let e : 0 + sector ≡ sector = omega arith in
-              subst (λ (n : ℕ). bay.reads' opened.line.origin n ≡ Some (part (sector * 512) 512 (disks.history served.back).now.seen)) e at_origin;
+              subst (λ (n : ℕ). bay.reads' line.origin n ≡ Some (part (sector * 512) 512 (disks.history served.back).now.seen)) e at_origin;
         };
-        reads = served.goes.right.reads tells (seen-is bay.reads opened.line.origin opened.line.length contents (disks.history lent).now has (opened.taken.content tells) (rw (← origin.sectors) (served.was_whole tells)));
+        reads = served.goes.right.reads tells (seen-is bay.reads line.origin line.length contents (disks.history lent).now has (opened.taken.content tells) (rw (← origin.sectors) (served.was_whole tells)));
       }
 
   -- its report
-  pub served-reports : (contents : List ℕ) → IsOpened words disks (first_part bay between) geometry lent → KeepsSizes between.sizes bay.sizes
+  pub served-reports : (words : List (List ℕ)) (contents : List ℕ) → IsServe words line → IsOpened line disks (first_part bay between) geometry lent → KeepsSizes between.sizes bay.sizes
       → HasServed geometry contents disks (last_part bay between) streams bay.loans lent result
       → Reports words contents disks bay streams result
-  served-reports contents opened keeps served =
+  served-reports words contents serve opened keeps served =
       let origin = opened.taken.origin in
       record {
         report = Serves served.goes.session;
         ended = served.goes.ended;
         right = record {
-          line = opened.line;
+          line = line;
           geometry = geometry;
-          asked = opened.asked;
+          asked = record { serve = serve; sectors = opened.sectors; block_sectors = opened.block_sectors };
           lent = lent;
           back = served.back;
-          origin = record { have = origin.have; size = keeps opened.line.origin origin.have origin.size; enough = origin.enough; place = origin.place; sectors = origin.sectors };
+          origin = record { have = origin.have; size = keeps line.origin origin.have origin.size; enough = origin.enough; place = origin.place; sectors = origin.sectors };
           loans = served.loans;
           right = served.goes.right;
           cause = served.goes.cause;
           content = ends_as_journal contents opened served;
-          others = λ other sector outside. others-but opened.line.origin (disks.sectors lent) opened.line.length (disks.place lent) origin.place origin.sectors served.others other sector outside
+          others = λ other sector outside. others-but line.origin (disks.sectors lent) line.length (disks.place lent) origin.place origin.sectors served.others other sector outside
               ∙ opened.taken.reads other sector;
           faults = served.faults ∙ opened.taken.faults;
         };

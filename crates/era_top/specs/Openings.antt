@@ -10,10 +10,13 @@ use Rattle.era_line.specs.declared.table_line.TableLine.{TableLine}
 use Rattle.era_top.specs.declared.refusal.Refusal.{Refusal}
 use Rattle.era_top.specs.declared.refusal.Refusal.TheVariants.{NoRoom, BayFault, TooSmall}
 use Rattle.era_top.specs.declared.status.Status.{Status}
+use Rattle.era_top.specs.declared.status.Status.TheVariants.{Fault}
 use Rattle.era_top.specs.Around.{DiskFacts, BayAround, StreamsAround}
-use Rattle.era_top.specs.Reports.{AsksFor, IsCauseOf, IsOrigin, LeavesBay, around_session}
+use Rattle.era_top.specs.Refusals.{refusal_status}
+use Rattle.era_top.specs.Reports.{IsCauseOf, IsOrigin, LeavesBay, around_session}
 use Rattle.era_top.specs.Rises.{HasRiseFor}
 use Rattle.era_top.specs.Sessions.{Goes}
+use Rattle.era_top.specs.Words.{IsServe}
 
 -- The origin of a table line was lent as it reads, and its loan is the last one.
 pub record IsOriginLent {D : Type 0} (disks : DiskFacts D) (bay : BayAround D) (line : TableLine) (lent : D) : Type 0 where
@@ -40,16 +43,22 @@ bay_refusal count Memory = NoRoom
 abbrev pub OpensOrigin : {D : Type 0} → DiskFacts D → BayAround D → TableLine → Result D Refusal → Type 0
 OpensOrigin disks bay line result = MatchResult result (IsOriginLent disks bay line) (λ refusal. IsOriginCause bay line refusal × LeavesBay bay)
 
--- The origin that the words name was lent, with the geometry that they give it.
-pub record IsOpened {D : Type 0} (words : List (List ℕ)) (disks : DiskFacts D) (bay : BayAround D) (geometry : Geometry) (lent : D) : Type 0 where
-  pub line : TableLine
-  pub asked : AsksFor words line geometry
+-- The origin of a table line was lent, with the geometry that the line gives it.
+pub record IsOpened {D : Type 0} (line : TableLine) (disks : DiskFacts D) (bay : BayAround D) (geometry : Geometry) (lent : D) : Type 0 where
+  pub sectors : geometry.sectors ≡ line.length
+  pub block_sectors : geometry.block_sectors ≡ line.block_sectors
   pub taken : IsOriginLent disks bay line lent
 
--- The origin that the words name was lent, or wasn't for this cause.
-abbrev pub OpensAsAsked : {D : Type 0} → List (List ℕ) → DiskFacts D → BayAround D → Result (Geometry × D) Refusal → Type 0
-OpensAsAsked words disks bay result =
-    MatchResult result (λ opened. IsOpened words disks bay opened.0 opened.1) (λ refusal. IsCauseOf words bay refusal × LeavesBay bay)
+-- The origin of a table line wasn't lent. Of whatever words ask for a session over it, this is the cause, and a fault is the bay's.
+pub record IsUnopened {D : Type 0} (line : TableLine) (bay : BayAround D) (refusal : Refusal) : Type 0 where
+  pub cause : (words : List (List ℕ)) → IsServe words line → IsCauseOf words bay refusal
+  pub left : LeavesBay bay
+  pub rose : refusal_status refusal ≡ Fault → Rose bay.faults bay.faults'
+
+-- The origin of a table line was lent, or wasn't for this cause.
+abbrev pub OpensAsAsked : {D : Type 0} → TableLine → DiskFacts D → BayAround D → Result (Geometry × D) Refusal → Type 0
+OpensAsAsked line disks bay result =
+    MatchResult result (λ opened. IsOpened line disks bay opened.0 opened.1) (IsUnopened line bay)
 
 -- A session was served over a disk, and the disk was put back behind the loans that began before it.
 pub record HasServed {D : Type 0} (geometry : Geometry) (contents : List ℕ) (disks : DiskFacts D) (bay : BayAround D)

@@ -9,14 +9,15 @@ use Rattle.era_base.specs.Geometry.{IsBlockSize, blocks_of, need_of}
 use Rattle.era_base.specs.declared.limits.TheConstants.{MOST_BLOCKS}
 use Rattle.era_line.specs.declared.table_line.TableLine.{TableLine}
 use Rattle.era_top.specs.declared.refusal.Refusal.{Refusal}
-use Rattle.era_top.specs.declared.refusal.Refusal.TheVariants.{NoCommand, NoRoom, NoGeometry, BayFault, TooSmall}
+use Rattle.era_top.specs.declared.refusal.Refusal.TheVariants.{NoCommand, NotYet, NoRoom, NoGeometry, BayFault, TooSmall}
 use Rattle.era_top.specs.declared.status.Status.{Status}
 use Rattle.era_top.specs.declared.status.Status.TheVariants.{Done}
 use Rattle.era_top.specs.Around.{DiskFacts, BayAround, StreamsAround}
 use Rattle.era_top.specs.Refusals.{refusal_text, refusal_status}
 use Rattle.era_top.specs.Runs.{ReadsAsJournal}
 use Rattle.era_top.specs.Sessions.{Session, session_text, Around, IsSession, EndsBy, Prints}
-use Rattle.era_top.specs.Words.{IsServe, IsNeed, IsNoCommand, GiveNumbers}
+use Rattle.era_top.specs.Words.{IsServe, IsNeed, IsNotYet, GiveNumbers}
+use Rattle.era_words.specs.Words.{IsNoJob}
 
 -- A call reports why it does nothing, how many metadata blocks an origin needs, or the session that it served.
 pub data Report : Type 0 where
@@ -36,7 +37,7 @@ IsNoGeometry BadBlockSize sectors size = ¬ IsBlockSize size
 IsNoGeometry NoBlocks sectors size = IsBlockSize size × (sectors ≡ 0)
 IsNoGeometry (TooManyBlocks count) sectors size = IsBlockSize size × (count ≡ blocks_of sectors size) × (MOST_BLOCKS < count)
 
--- The words are a serve command, and its table line gives this geometry.
+-- The words ask for a session, and its table line gives this geometry.
 pub record AsksFor (words : List (List ℕ)) (line : TableLine) (geometry : Geometry) : Type 0 where
   pub serve : IsServe words line
   pub sectors : geometry.sectors ≡ line.length
@@ -52,9 +53,10 @@ pub record LeavesSource (streams : StreamsAround) : Type 0 where
   pub left : streams.left' ≡ streams.left
   pub faults : streams.source_faults' ≡ streams.source_faults
 
--- The exact cause of a refusal: the words are no command; memory was refused, which may be at any time; their numbers are no geometry; the bay failed, and the count is its own; the origin is smaller than the table line says.
+-- The exact cause of a refusal: the words are no command; they are one that isn't served yet; memory was refused, which may be at any time; their numbers are no geometry; the bay failed, and the count is its own; the origin is smaller than the table line says.
 abbrev pub IsCauseOf : {D : Type 0} → List (List ℕ) → BayAround D → Refusal → Type 0
-IsCauseOf words bay NoCommand = IsNoCommand words × (bay.faults' ≡ bay.faults)
+IsCauseOf words bay NoCommand = IsNoJob words × (bay.faults' ≡ bay.faults)
+IsCauseOf words bay NotYet = IsNotYet words × (bay.faults' ≡ bay.faults)
 IsCauseOf words bay NoRoom = bay.faults' ≡ bay.faults
 IsCauseOf words bay (NoGeometry error size) =
     ((sectors : ℕ) × GiveNumbers words sectors size × IsNoGeometry error sectors size) × (bay.faults' ≡ bay.faults)

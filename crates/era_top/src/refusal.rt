@@ -7,6 +7,8 @@ use era_base::GeomError;
 pub enum Refusal {
     /// The words are no command.
     NoCommand,
+    /// The words are a command that isn't served yet.
+    NotYet,
     /// Memory was refused.
     NoRoom,
     /// The length and this block size are no geometry.

@@ -19,7 +19,7 @@ pub fn status_of(refusal: Refusal) -> Status
     ensures { result ≡ refusal_status refusal }
 {
     match refusal {
-        Refusal::NoCommand => Status::Usage,
+        Refusal::NoCommand | Refusal::NotYet => Status::Usage,
         Refusal::NoRoom => Status::Memory,
         Refusal::NoGeometry { .. } | Refusal::TooSmall { .. } => Status::Refused,
         Refusal::BayFault { .. } => Status::Fault,
@@ -68,6 +68,7 @@ fn give_refusal<K: Sink>(
 {
     match refusal {
         Refusal::NoCommand => give_parts(text, sink, &[Text(b"refused Usage\n")]),
+        Refusal::NotYet => give_parts(text, sink, &[Text(b"refused NotYet\n")]),
         Refusal::NoRoom => give_parts(text, sink, &[Text(b"memory\n")]),
         Refusal::NoGeometry { error, size } => give_geometry(text, sink, error, size),
         Refusal::BayFault { count } => {

@@ -9,8 +9,7 @@ ghost use Rattle.era_top.specs.Reports.{Reports};
 ghost use Rattle.era_top.specs.Rises.{HasSinkCause};
 ghost use Rattle.era_top.specs.Top.{EndsAs, EndsBySink, IsNumber, IsServable};
 ghost use Rattle.era_top.specs.Exactly.{EndsExactly};
-ghost use Rattle.era_top.specs.Words.{texts_of, IsNeed, IsNoNeed};
-ghost use Rattle.era_base.specs.declared.geometry.Geometry.{Geometry as geometry_numbers};
+ghost use Rattle.era_top.specs.Words.{texts_of, IsServe};
 
 use crate::need::tell_need;
 use crate::number::number;
@@ -19,24 +18,19 @@ use crate::refusal::Refusal;
 use crate::refuse::refuse;
 use crate::session::serve;
 use crate::status::Status;
-use crate::words::{WordsError, read_need, read_words};
+use crate::words::{Asked, read_asked};
 use era_base::{Bay, Geometry, Pace, Sink, Source};
+use era_line::TableLine;
 use std::alloc::Global;
 use std::sync::Wait;
 use std::thread::Threads;
 
-/// Opens the origin that the words name, which are no need command.
-fn open<B: Bay>(alloc: Global, words: &[String], bay: &mut B) -> Result<(Geometry, B::D), Refusal>
-    requires { IsNoNeed (texts_of words.now) }
-    ensures { OpensAsAsked (texts_of words.now)
+/// Opens the origin of a table line.
+fn open<B: Bay>(line: &TableLine, bay: &mut B) -> Result<(Geometry, B::D), Refusal>
+    ensures { OpensAsAsked line.now
         (disk_facts B.D.Disk) (bay_around B.Bay bay.old bay.new)
         result }
 {
-    let line = match read_words(alloc, words) {
-        Ok(line) => line,
-        Err(WordsError::Usage) => return Err(Refusal::NoCommand),
-        Err(WordsError::Memory) => return Err(Refusal::NoRoom),
-    };
     let geometry = match Geometry::new(line.length, line.block_sectors) {
         Ok(geometry) => geometry,
         Err(error) => {
@@ -46,7 +40,7 @@ fn open<B: Bay>(alloc: Global, words: &[String], bay: &mut B) -> Result<(Geometr
             });
         }
     };
-    match open_origin(bay, &line) {
+    match open_origin(bay, line) {
         Ok(disk) => Ok((geometry, disk)),
         Err(refusal) => Err(refusal),
     }
@@ -77,16 +71,16 @@ fn serve_lent<S: Source, K: Sink, B: Bay>(
     status
 }
 
-/// Serves what the words say, which are no need command, and tells how it ended.
+/// Serves a session over the target of a table line, and tells how it ended.
 fn run_serve<S: Source, K: Sink, B: Bay>(
     alloc: Global,
-    words: &[String],
+    line: &TableLine,
     source: &mut S,
     sink: &mut K,
     bay: &mut B,
 ) -> Status
-    requires { IsNoNeed (texts_of words.now) }
-    ensures single_lane_session { (contents : List ℕ) → Reports (texts_of words.now) contents
+    ensures single_lane_session { (words : List (List ℕ)) (contents : List ℕ)
+        → IsServe words line.now → Reports words contents
         (disk_facts B.D.Disk) (bay_around B.Bay bay.old bay.new)
         (streams_around S.Source K.Sink source.old source.new sink.old sink.new)
         result }
@@ -96,7 +90,7 @@ fn run_serve<S: Source, K: Sink, B: Bay>(
     ensures sink { HasSinkCause (K.faults sink.old) (K.faults sink.new) result }
     ensures returned { AllReturned (bay_around B.Bay bay.old bay.new) }
 {
-    match open(alloc, words, bay) {
+    match open(line, bay) {
         Ok((geometry, disk)) => serve_lent(alloc, &geometry, disk, source, sink, bay),
         Err(refusal) => refuse(sink, refusal),
     }
@@ -119,13 +113,16 @@ pub fn run_words<S: Source, K: Sink, B: Bay>(
     ensures source { result ≡ Status.Source → Rose (S.faults source.old) (S.faults source.new) }
     ensures sink { HasSinkCause (K.faults sink.old) (K.faults sink.new) result }
     ensures returned { AllReturned (bay_around B.Bay bay.old bay.new) }
-    ensures need { (geometry : geometry_numbers)
-        → IsNeed (texts_of words.now) geometry.sectors geometry.block_sectors
-        → (result ≡ Status.Done) ⊎ (result ≡ Status.Sink) }
 {
-    match read_need(words) {
-        Some((sectors, block_sectors)) => tell_need(sink, sectors, block_sectors),
-        None => run_serve(alloc, words, source, sink, bay),
+    match read_asked(alloc, words) {
+        Ok(Asked::Session(line)) => run_serve(alloc, &line, source, sink, bay),
+        Ok(
+            Asked::Need {
+                sectors,
+                block_sectors,
+            },
+        ) => tell_need(sink, sectors, block_sectors),
+        Err(refusal) => refuse(sink, refusal),
     }
 }
 

@@ -1,50 +1,61 @@
-//! The words of the program.
+//! What is served so far of what words ask for.
 
-ghost use Rattle.era_top.specs.Words.{texts_of, IsServe, IsNeed, IsNoNeed, IsNoServe};
-ghost use Rattle.std.specs.Prelude.{IfNone, IfOk, IfSome, IsErrOf};
+ghost use Rattle.std.specs.Prelude.{◌≡◌, IfErr, IfNone, IfOk, IfSome};
+ghost use Rattle.era_top.specs.Words.{texts_of, job_of, Ask, IsUnserved, IsWordsCause};
 
-use era_line::{LineFault, TableLine, read_decimal, read_table};
+use crate::refusal::Refusal;
+use era_line::TableLine;
+use era_words::{Job, WordsError, read_words};
 use std::alloc::Global;
 
-/// Why no command was read.
-#[derive(Clone, Copy, Debug, PartialEq, Eq)]
-pub enum WordsError {
-    /// The words are no command.
-    Usage,
-    /// Memory was refused.
-    Memory,
+/// What is asked for, of what is served so far.
+#[derive(Debug, Drop)]
+pub enum Asked {
+    /// A session over the target of a table line.
+    Session(TableLine),
+    /// The metadata blocks that an origin of so many sectors in blocks of so many sectors needs.
+    Need { sectors: u64, block_sectors: u64 },
 }
 
-/// The table line that the words of a serve command have.
-pub fn read_words(alloc: Global, words: &[String]) -> Result<TableLine, WordsError>
-    ensures ok { IfOk result (λ line. IsServe (texts_of words.now) line) }
-    ensures usage { IsErrOf result WordsError.Usage → IsNoServe (texts_of words.now) }
+/// What a job asks for, where it is served so far.
+fn served(job: Job) -> Option<Asked>
+    ensures some { IfSome result (λ asked. job ≡ job_of asked) }
+    ensures none { IfNone result (IsUnserved job) }
 {
-    let [command, text] = words else {
-        return Err(WordsError::Usage);
-    };
-    if command.as_str() != "serve" {
-        return Err(WordsError::Usage);
-    }
-    match read_table(alloc, text.as_str()) {
-        Ok(line) => Ok(line),
-        Err(LineFault::NotATable) => Err(WordsError::Usage),
-        Err(LineFault::Memory) => Err(WordsError::Memory),
+    match job {
+        Job::Serve {
+            line,
+            stripes,
+            digest,
+        } => {
+            if stripes == 4 && digest == 0 {
+                Some(Asked::Session(line))
+            } else {
+                None
+            }
+        }
+        Job::Need {
+            sectors,
+            block_sectors,
+        } => Some(Asked::Need {
+            sectors,
+            block_sectors,
+        }),
+        _ => None,
     }
 }
 
-/// The length and the block size that the words of a need command have, in sectors.
-pub fn read_need(words: &[String]) -> Option<(u64, u64)>
-    ensures some { IfSome result (λ need. IsNeed (texts_of words.now) need.0 need.1) }
-    ensures none { IfNone result (IsNoNeed (texts_of words.now)) }
+/// What the words ask for, where it is served so far, or why it isn't.
+pub fn read_asked(alloc: Global, words: &[String]) -> Result<Asked, Refusal>
+    ensures ok { IfOk result (Ask (texts_of words.now)) }
+    ensures err { IfErr result (IsWordsCause (texts_of words.now)) }
 {
-    let [command, sectors, block_sectors] = words else {
-        return None;
-    };
-    if command.as_str() != "need" {
-        return None;
+    match read_words(alloc, words) {
+        Ok(job) => match served(job) {
+            Some(asked) => Ok(asked),
+            None => Err(Refusal::NotYet),
+        },
+        Err(WordsError::Usage) => Err(Refusal::NoCommand),
+        Err(WordsError::Memory) => Err(Refusal::NoRoom),
     }
-    let sectors = read_decimal(sectors.as_bytes())?;
-    let block_sectors = read_decimal(block_sectors.as_bytes())?;
-    Some((sectors, block_sectors))
 }

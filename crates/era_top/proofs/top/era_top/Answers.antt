@@ -55,4 +55,4 @@ returns-clause-exact g c =
       sink_faults = g.K.Sink.faults c.args.sink.now;
       sink_faults' = g.K.Sink.faults c.run_words.new.sink;
     })
-    c.run_words.result c.number.result c.number.ensures (c.run_words.ensures.single_lane_session []) c.run_words.ensures.need
+    c.run_words.result c.number.result c.number.ensures (c.run_words.ensures.single_lane_session [])

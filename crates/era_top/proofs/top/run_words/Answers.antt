@@ -1,13 +1,15 @@
-use Rattle.std.proofs.Common.{refl}
-use Rattle.era_top.specs.Words.{texts_of}
-use Rattle.era_top.proofs.Exactly.{need-status}
+use Rattle.std.proofs.Common.{refl, subst}
+use Rattle.era_top.specs.Refusals.{refusal_status}
+use Rattle.era_top.specs.Reports.{Refuses}
+use Rattle.era_top.specs.Words.{texts_of, Ask}
+use Rattle.era_top.proofs.Causes.{words_cause}
 use Rattle.era_top.proofs.Needing.{need-reports}
 use Rattle.era_top.proofs.Serving.{none-returned}
 use Rattle.era_top.proofs.top.run_words.Goals as goal
 
 -- the need is told
-pub returns-in-Some-clause-single_lane_session : goal.returns-in-Some-clause-single_lane_session
-returns-in-Some-clause-single_lane_session g c = λ contents.
+pub returns-in-Ok-Need-clause-single_lane_session : goal.returns-in-Ok-Need-clause-single_lane_session
+returns-in-Ok-Need-clause-single_lane_session g c = λ contents.
     need-reports g.row.B-D.Denot (texts_of c.args.words.now) contents
     (record { place = g.B.D.Disk.place; sectors = g.B.D.Disk.sectors; history = g.B.D.Disk.history; faults = g.B.D.Disk.faults; tells = g.B.D.Disk.tells })
     (record {
@@ -29,12 +31,13 @@ returns-in-Some-clause-single_lane_session g c = λ contents.
       sink_faults = g.K.Sink.faults c.args.sink.now;
       sink_faults' = g.K.Sink.faults c.tell_need.new.sink;
     })
-    c.in-Some.sectors c.in-Some.block_sectors c.tell_need.result c.in-Some.ensures.some
+    c.in-Ok-Need.sectors c.in-Ok-Need.block_sectors c.tell_need.result
+    (subst (λ asked. Ask (texts_of c.args.words.now) asked) c.in-Ok-Need.field-0-is c.in-Ok-Need.ensures.ok)
     (record { loans = refl; reads = λ device sector. refl }) refl (record { left = refl; faults = refl }) c.tell_need.ensures.told
 
 -- no disk was lent
-pub returns-in-Some-clause-returned : goal.returns-in-Some-clause-returned
-returns-in-Some-clause-returned g c = none-returned g.row.B-D.Denot
+pub returns-in-Ok-Need-clause-returned : goal.returns-in-Ok-Need-clause-returned
+returns-in-Ok-Need-clause-returned g c = none-returned g.row.B-D.Denot
     (record {
       sizes = g.B.Bay.sizes c.args.bay.now;
       reads = g.B.Bay.reads c.args.bay.now;
@@ -46,12 +49,40 @@ returns-in-Some-clause-returned g c = none-returned g.row.B-D.Denot
     })
     refl
 
--- the need of a geometry is told
-pub returns-in-Some-clause-need : goal.returns-in-Some-clause-need
-returns-in-Some-clause-need g c =
-    need-status (texts_of c.args.words.now) c.in-Some.sectors c.in-Some.block_sectors (g.K.Sink.given c.args.sink.now) (g.K.Sink.given c.tell_need.new.sink)
-    c.tell_need.result c.in-Some.ensures.some c.tell_need.ensures.told
+-- the words are refused
+pub returns-in-Err-clause-single_lane_session : goal.returns-in-Err-clause-single_lane_session
+returns-in-Err-clause-single_lane_session g c = λ contents. record {
+  report = Refuses c.in-Err.refusal;
+  ended = refusal_status c.in-Err.refusal;
+  right = (
+    refl,
+    words_cause g.row.B-D.Denot (texts_of c.args.words.now)
+        (record {
+          sizes = g.B.Bay.sizes c.args.bay.now;
+          reads = g.B.Bay.reads c.args.bay.now;
+          reads' = g.B.Bay.reads c.args.bay.now;
+          loans = g.B.Bay.loans c.args.bay.now;
+          loans' = g.B.Bay.loans c.args.bay.now;
+          faults = g.B.Bay.faults c.args.bay.now;
+          faults' = g.B.Bay.faults c.args.bay.now;
+        })
+        c.in-Err.refusal refl c.in-Err.ensures.err,
+    record { loans = refl; reads = λ device sector. refl },
+    record { left = refl; faults = refl },
+  );
+  printed = c.refuse.ensures.printed;
+}
 
--- no need is asked
-pub returns-in-None-clause-need : goal.returns-in-None-clause-need
-returns-in-None-clause-need g c = λ geometry need. absurd (c.in-None.ensures.none geometry.sectors geometry.block_sectors need)
+-- no disk was lent
+pub returns-in-Err-clause-returned : goal.returns-in-Err-clause-returned
+returns-in-Err-clause-returned g c = none-returned g.row.B-D.Denot
+    (record {
+      sizes = g.B.Bay.sizes c.args.bay.now;
+      reads = g.B.Bay.reads c.args.bay.now;
+      reads' = g.B.Bay.reads c.args.bay.now;
+      loans = g.B.Bay.loans c.args.bay.now;
+      loans' = g.B.Bay.loans c.args.bay.now;
+      faults = g.B.Bay.faults c.args.bay.now;
+      faults' = g.B.Bay.faults c.args.bay.now;
+    })
+    refl
