@@ -1,0 +1,12 @@
+pub mod Numbers
+pub mod DumpLines
+pub mod FirstLine
+pub mod Grammar
+pub mod Dumps
+pub mod DumpLaws
+pub mod Pieces
+pub mod Written
+pub mod Folding
+pub mod RowsOfDumps
+pub mod Taking
+pub mod ReadDumps
