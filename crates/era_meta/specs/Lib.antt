@@ -1,1 +1,12 @@
 pub mod PageParts
+pub mod Content
+pub mod Meaning
+pub mod Keeping
+pub mod Putting
+pub mod SaysMarks
+pub mod Stored
+pub mod StoredMarks
+pub mod LiveParts
+pub mod Areas
+pub mod InMemory
+pub mod Formatting

@@ -24,7 +24,7 @@ pub trait PageSource {
 }
 
 /// So many items of a list from an index on, or as many as there are.
-fn part<T>(items: &[T], from: usize, count: usize) -> &[T]
+pub fn part<T>(items: &[T], from: usize, count: usize) -> &[T]
     ensures items { result.now ≡ take count (drop from items.now) }
     ensures count { length result.now ≤ count }
 {

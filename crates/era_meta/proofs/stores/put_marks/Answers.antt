@@ -1,0 +1,112 @@
+use Rattle.std.proofs.Common.{◌≡◌, ℕ, ◌*◌, true, false, length, refl, sym, ap, ◌∙◌, inr}
+use Rattle.std.proofs.lemmas.Bool.{false≢true}
+use Rattle.era_base.proofs.Moments.{went-now}
+use Rattle.era_layout.specs.Root.{fields_of, pages_of}
+use Rattle.era_slots.specs.Standing.{Stands}
+use Rattle.era_slots.specs.Promise.{Begins}
+use Rattle.era_meta.specs.Meaning.{pages_in}
+use Rattle.era_meta.specs.Keeping.{stored_in, Keeps, IsLeft}
+use Rattle.era_meta.specs.Putting.{PutsAmong, MayCommit}
+use Rattle.era_meta.proofs.Begun.{begins-keeps, begins-says, left-before}
+use Rattle.era_meta.proofs.Ends.{ok_map, on_err, at-fields}
+use Rattle.era_meta.proofs.MarksPut.{true-unless, went-begun, put-keeps, put-says, went-prepared, prepared-may, next-says-marks, room-in}
+use Rattle.era_meta.proofs.stores.put_marks.Goals as goal
+
+-- the gate wasn't closed
+pub returns-in_err-begin-clause-moments : goal.returns-in_err-begin-clause-moments
+returns-in_err-begin-clause-moments g c = λ told root held may.
+    went-begun c.page_on_the_disk_is_left.ensures c.standing_slots_leave_one_of_two_bodies.ensures c.open_slot_is_left_as_it_reads.ensures
+    c.args.slots.now.target c.args.slots.now.number c.args.slots.now.may_be_open root held
+    (g.D.Disk.history c.args.slots.now.disk) (g.D.Disk.history c.begin.new.self.disk) may.keeps (c.begin.ensures.moments told)
+
+pub returns-in_err-begin-clause-err : goal.returns-in_err-begin-clause-err
+returns-in_err-begin-clause-err g c = on_err c.from_residual.result (λ told root held may other.
+    let target = c.args.slots.now.target in
+    let number = c.args.slots.now.number in
+    let flag = c.args.slots.now.may_be_open in
+    let old = g.D.Disk.history c.args.slots.now.disk in
+    let new = g.D.Disk.history c.begin.new.self.disk in
+    let same = c.begin.ensures.same.0 in
+    let begins = went-now (Begins target number flag) old new (c.begin.ensures.moments told) in
+    let opened : flag ≡ true = true-unless flag (λ is. false≢true (c.in_err-begin.ensures.begun.quiet is).0) in
+    record {
+      keeps = at-fields (λ t n f. Keeps t n f root held new.now) target c.begin.new.self.target number c.begin.new.self.number flag c.begin.new.self.may_be_open
+          same.target same.number (c.in_err-begin.ensures.begun.failed ∙ sym opened)
+          (begins-keeps target number flag root held old.now new.now may.keeps begins);
+      says = begins-says target number flag root held old.now new.now may.keeps begins;
+      left = λ now_open left is. inr (
+        opened,
+        left-before target number left old.now new.now may.keeps.stands.slot begins.same.bytes begins.failed begins.pages
+            (at-fields (λ t n f. IsLeft t n left new.now) c.begin.new.self.target target c.begin.new.self.number number flag flag (sym same.target) (sym same.number) refl is),
+      );
+    })
+
+-- pages are put
+pub returns-clause-moments : goal.returns-clause-moments
+returns-clause-moments g c = λ told root held may.
+    let target = c.args.slots.now.target in
+    let number = c.args.slots.now.number in
+    let mid = g.D.Disk.history c.begin.new.self.disk in
+    let same = c.begin.ensures.same.0 in
+    let stands : Stands target number false mid.now
+    = at-fields (λ t n f. Stands t n f mid.now) c.begin.new.self.target target c.begin.new.self.number number c.begin.new.self.may_be_open false
+    (sym same.target) (sym same.number) (sym c.in_ok-begin.ensures.begun.begun) (c.begin.ensures.stands told) in
+    went-prepared c.page_on_the_disk_is_left.ensures c.standing_slots_leave_one_of_two_bodies.ensures c.open_slot_is_left_as_it_reads.ensures
+    (pages_of (fields_of c.args.next.now)) target number c.args.slots.now.may_be_open root held
+    (g.D.Disk.history c.args.slots.now.disk) mid (g.D.Disk.history c.put_root.new.slots.disk) may.keeps may.fresh.apart stands (c.begin.ensures.moments told)
+    (rw (same.target, same.number) at (c.put_root.ensures.moments told))
+
+pub returns-clause-ok : goal.returns-clause-ok
+returns-clause-ok g c = ok_map c.put_root.result (λ says told root held may.
+    let target = c.args.slots.now.target in
+    let number = c.args.slots.now.number in
+    let flag = c.args.slots.now.may_be_open in
+    let next = fields_of c.args.next.now in
+    let m = c.args.marks.now in
+    let old = g.D.Disk.history c.args.slots.now.disk in
+    let mid = g.D.Disk.history c.begin.new.self.disk in
+    let new = g.D.Disk.history c.put_root.new.slots.disk in
+    let same = c.begin.ensures.same.0 in
+    let stands : Stands target number false mid.now
+    = at-fields (λ t n f. Stands t n f mid.now) c.begin.new.self.target target c.begin.new.self.number number c.begin.new.self.may_be_open false
+    (sym same.target) (sym same.number) (sym c.in_ok-begin.ensures.begun.begun) (c.begin.ensures.stands told) in
+    let begins = went-now (Begins target number flag) old mid (c.begin.ensures.moments told) in
+    let among = went-now (PutsAmong (pages_of next) target number) mid new (rw (same.target, same.number) at (c.put_root.ensures.moments told)) in
+    let keeps = put-keeps (pages_of next) target number flag root held old.now mid.now new.now may.keeps may.fresh.apart begins stands among in
+    let old_says = put-says (pages_of next) target number flag root held old.now mid.now new.now may.keeps may.fresh.apart begins among in
+    let whole = c.pages_say_marks.ensures.whole (pages_in new.now.seen) next m c.requires.root.0 c.are_valid.ensures c.requires.root.1 (says told) in
+    let said = c.pages_say_marks.ensures.marks (pages_in new.now.seen) next m c.requires.root.0 c.are_valid.ensures c.requires.root.1 (says told) in
+    let size : length new.now.seen ≡ g.D.Disk.sectors c.args.slots.now.disk * 512
+    = (g.met.D.Disk.whole c.put_root.new.slots.disk told).bytes ∙ ap (λ (n : ℕ). n * 512) (c.put_root.ensures.same.1.size ∙ c.begin.ensures.same.1.size) in
+    let room = room-in next (g.D.Disk.sectors c.args.slots.now.disk) new.now c.requires.room size in
+    record {
+      may = at-fields (λ t n f. MayCommit t n root next held held new.now) target c.put_root.new.slots.target number c.put_root.new.slots.number flag flag
+          (c.put_root.ensures.same.0.target ∙ same.target) (c.put_root.ensures.same.0.number ∙ same.number) refl
+          (prepared-may target number root next held new.now keeps may.fresh c.requires.root.0 whole room);
+      says = old_says;
+      next_says = next-says-marks root next held m (stored_in old.now root held) new.now said old_says;
+    }) c.put_root.ensures.put
+
+pub returns-clause-err : goal.returns-clause-err
+returns-clause-err g c = on_err c.put_root.result (λ told root held may other.
+    let target = c.args.slots.now.target in
+    let number = c.args.slots.now.number in
+    let flag = c.args.slots.now.may_be_open in
+    let next = fields_of c.args.next.now in
+    let old = g.D.Disk.history c.args.slots.now.disk in
+    let mid = g.D.Disk.history c.begin.new.self.disk in
+    let new = g.D.Disk.history c.put_root.new.slots.disk in
+    let same = c.begin.ensures.same.0 in
+    let stands : Stands target number false mid.now
+    = at-fields (λ t n f. Stands t n f mid.now) c.begin.new.self.target target c.begin.new.self.number number c.begin.new.self.may_be_open false
+    (sym same.target) (sym same.number) (sym c.in_ok-begin.ensures.begun.begun) (c.begin.ensures.stands told) in
+    let begins = went-now (Begins target number flag) old mid (c.begin.ensures.moments told) in
+    let among = went-now (PutsAmong (pages_of next) target number) mid new (rw (same.target, same.number) at (c.put_root.ensures.moments told)) in
+    let closed : c.put_root.new.slots.may_be_open ≡ false = c.put_root.ensures.same.0.may_be_open ∙ c.in_ok-begin.ensures.begun.begun in
+    record {
+      keeps = at-fields (λ t n f. Keeps t n f root held new.now) target c.put_root.new.slots.target number c.put_root.new.slots.number false
+          c.put_root.new.slots.may_be_open (c.put_root.ensures.same.0.target ∙ same.target) (c.put_root.ensures.same.0.number ∙ same.number) closed
+          (put-keeps (pages_of next) target number flag root held old.now mid.now new.now may.keeps may.fresh.apart begins stands among);
+      says = put-says (pages_of next) target number flag root held old.now mid.now new.now may.keeps may.fresh.apart begins among;
+      left = λ opened. absurd (false≢true (sym closed ∙ opened));
+    })

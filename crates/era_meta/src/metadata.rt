@@ -1,0 +1,182 @@
+//! The metadata of an origin: marks in memory, and on a disk what they were when they were stored last.
+
+ghost use Rattle.std.specs.Prelude.{◌≡◌, ◌-◌, ◌<◌, ◌^◌, true, false, OnOk, OnErr};
+ghost use Rattle.era_base.specs.Calls.{EachMoment, Now, SameDisk};
+ghost use Rattle.era_base.specs.Faults.{HasCount};
+ghost use Rattle.era_base.specs.declared.limits.TheConstants.{LAST_ERA};
+ghost use Rattle.era_model.specs.Marks.{blocks_of_marks, rolled, with_block};
+ghost use Rattle.era_slots.specs.Calls.{AtEnd};
+
+use crate::areas::{SpareLists, prepare};
+use crate::laws::kept_disk_leaves_its_meanings;
+use crate::live_marks::LiveMarks;
+use crate::page_laws::two_roots_leave_an_area;
+use crate::stores::store_marks;
+use era_base::Disk;
+use era_layout::Root;
+use era_slots::Slots;
+use std::mem;
+
+/// The metadata of an origin over its disk. All memory was taken when it was made.
+#[derive(Drop)]
+pub struct Meta<D> {
+    /// The disk, and where its next commit goes.
+    pub slots: Slots<D>,
+    /// The marks in memory.
+    pub marks: LiveMarks,
+    /// The committed root.
+    pub root: Root,
+    /// Room for the next root.
+    pub next: Root,
+    /// The snapshot's root, if one is held.
+    pub held: Option<Root>,
+    /// Lists of pages that neither root has now.
+    pub spare: SpareLists,
+    /// Whether the marks in memory are one era switch ahead of what is stored.
+    pub unstored: bool,
+}
+
+impl<D: Disk> Meta<D> {
+    ghost use Rattle.era_meta.specs.InMemory.{FitTogether, KeepsMeta, MetaStands, MetaStores, HasStored, StillStores, LeavesMeanings};
+
+    /// Stores the marks in memory as a whole root of new pages.
+    fn store_live(&mut self) -> Result<(), u64>
+        requires below { self.old.slots.number < 2 ^ 63 - 1 }
+        requires fit { FitTogether D.Disk self.old }
+        requires keeps { Now D.Disk (KeepsMeta self.old) self.old.slots.disk }
+        ensures moments { EachMoment D.Disk (MetaStores self.old self.old.marks)
+            self.old.slots.disk self.new.slots.disk }
+        ensures fit { FitTogether D.Disk self.new }
+        ensures ok { OnOk result (AtEnd D.Disk (HasStored self.old self.old.marks self.new)
+            self.old.slots.disk self.new.slots.disk) }
+        ensures err { OnErr result (AtEnd D.Disk (StillStores self.old self.old.marks self.new)
+            self.old.slots.disk self.new.slots.disk) }
+        ensures memory { (self.new.marks ≡ self.old.marks)
+            × (self.new.unstored ≡ self.old.unstored) }
+        ensures disk { SameDisk D.Disk self.old.slots.disk self.new.slots.disk }
+        ensures cause { HasCount (D.faults self.old.slots.disk) (D.faults self.new.slots.disk)
+            result }
+    {
+        two_roots_leave_an_area();
+        self.marks.are_valid();
+        let held = self.held.as_ref();
+        let era = self.marks.era();
+        prepare(
+            &mut self.next,
+            &mut self.spare,
+            &self.root,
+            held,
+            era,
+            self.marks.archive(),
+        );
+        store_marks(&mut self.slots, &self.next, &self.marks)?;
+        mem::swap(&mut self.root, &mut self.next);
+        Ok(())
+    }
+
+    /// Whether the marks in memory are one era switch ahead of what is stored: a `roll` failed, and `store` stores it.
+    pub fn unstored(&self) -> bool
+        ensures { result ≡ self.now.unstored }
+    {
+        self.unstored
+    }
+
+    /// Each crash image now stands for what is stored, or for what a commit that failed in opening its gate was storing,
+    /// whatever was done before. It does nothing.
+    pub fn crashes_now(&self)
+        requires { Now D.Disk (MetaStands self.now) self.now.slots.disk }
+        ensures { Now D.Disk (LeavesMeanings self.now) self.now.slots.disk }
+    {
+        kept_disk_leaves_its_meanings();
+    }
+
+    /// Stores the marks in memory. The error is the disk's count of faults, which rose; then what is stored is as before.
+    /// It takes no memory.
+    pub fn store(&mut self) -> Result<(), u64>
+        requires below { self.old.slots.number < 2 ^ 63 - 1 }
+        requires fit { FitTogether D.Disk self.old }
+        requires stands { Now D.Disk (MetaStands self.old) self.old.slots.disk }
+        ensures moments { EachMoment D.Disk (MetaStores self.old self.old.marks)
+            self.old.slots.disk self.new.slots.disk }
+        ensures fit { FitTogether D.Disk self.new }
+        ensures stands { Now D.Disk (MetaStands self.new) self.new.slots.disk }
+        ensures ok { OnOk result (AtEnd D.Disk (HasStored self.old self.old.marks self.new)
+            self.old.slots.disk self.new.slots.disk) }
+        ensures err { OnErr result (AtEnd D.Disk (StillStores self.old self.old.marks self.new)
+            self.old.slots.disk self.new.slots.disk) }
+        ensures memory { (self.new.marks ≡ self.old.marks)
+            × OnOk result (self.new.unstored ≡ false)
+            × OnErr result (self.new.unstored ≡ self.old.unstored) }
+        ensures disk { SameDisk D.Disk self.old.slots.disk self.new.slots.disk }
+        ensures cause { HasCount (D.faults self.old.slots.disk) (D.faults self.new.slots.disk)
+            result }
+    {
+        self.store_live()?;
+        self.unstored = false;
+        Ok(())
+    }
+
+    /// Marks a block in the present era, in memory and on the disk. The error is the disk's count of faults, which rose;
+    /// then the marks in memory are as before, and what is stored is too. It takes no memory.
+    pub fn mark(&mut self, block: u32) -> Result<(), u64>
+        requires block { block < blocks_of_marks self.old.marks }
+        requires ready { (self.old.unstored ≡ false) × (self.old.slots.number < 2 ^ 63 - 1) }
+        requires fit { FitTogether D.Disk self.old }
+        requires stands { Now D.Disk (MetaStands self.old) self.old.slots.disk }
+        ensures moments { EachMoment D.Disk (MetaStores self.old (with_block self.old.marks block))
+            self.old.slots.disk self.new.slots.disk }
+        ensures fit { FitTogether D.Disk self.new }
+        ensures stands { Now D.Disk (MetaStands self.new) self.new.slots.disk }
+        ensures ok { OnOk result
+            (AtEnd D.Disk (HasStored self.old (with_block self.old.marks block) self.new)
+            self.old.slots.disk self.new.slots.disk) }
+        ensures err { OnErr result
+            (AtEnd D.Disk (StillStores self.old (with_block self.old.marks block) self.new)
+            self.old.slots.disk self.new.slots.disk) }
+        ensures memory { OnOk result (self.new.marks ≡ with_block self.old.marks block)
+            × OnErr result (self.new.marks ≡ self.old.marks)
+            × (self.new.unstored ≡ false) }
+        ensures disk { SameDisk D.Disk self.old.slots.disk self.new.slots.disk }
+        ensures cause { HasCount (D.faults self.old.slots.disk) (D.faults self.new.slots.disk)
+            result }
+    {
+        let was_marked = self.marks.is_marked(block);
+        self.marks.mark(block);
+        match self.store_live() {
+            Ok(()) => Ok(()),
+            Err(count) => {
+                self.marks.restore(block, was_marked);
+                Err(count)
+            }
+        }
+    }
+
+    /// Moves to the next era, in memory and on the disk: archives the current set, and where sixteen sets are archived
+    /// merges the oldest one before, in the same commit. The error is the disk's count of faults, which rose; then the
+    /// next era stands in memory alone, and `store` stores it. It takes no memory.
+    pub fn roll(&mut self) -> Result<(), u64>
+        requires era { self.old.marks.era < LAST_ERA }
+        requires ready { (self.old.unstored ≡ false) × (self.old.slots.number < 2 ^ 63 - 1) }
+        requires fit { FitTogether D.Disk self.old }
+        requires stands { Now D.Disk (MetaStands self.old) self.old.slots.disk }
+        ensures moments { EachMoment D.Disk (MetaStores self.old (rolled self.old.marks))
+            self.old.slots.disk self.new.slots.disk }
+        ensures fit { FitTogether D.Disk self.new }
+        ensures stands { Now D.Disk (MetaStands self.new) self.new.slots.disk }
+        ensures ok { OnOk result (AtEnd D.Disk (HasStored self.old (rolled self.old.marks) self.new)
+            self.old.slots.disk self.new.slots.disk) }
+        ensures err { OnErr result
+            (AtEnd D.Disk (StillStores self.old (rolled self.old.marks) self.new)
+            self.old.slots.disk self.new.slots.disk) }
+        ensures memory { (self.new.marks ≡ rolled self.old.marks)
+            × OnOk result (self.new.unstored ≡ false)
+            × OnErr result (self.new.unstored ≡ true) }
+        ensures disk { SameDisk D.Disk self.old.slots.disk self.new.slots.disk }
+        ensures cause { HasCount (D.faults self.old.slots.disk) (D.faults self.new.slots.disk)
+            result }
+    {
+        self.marks.roll();
+        self.unstored = true;
+        self.store()
+    }
+}

@@ -1,0 +1,27 @@
+//! What pages say and where they stand, as laws: the functions do nothing, and their clauses are the laws.
+
+ghost use Rattle.std.specs.Prelude.{◌≡◌, ℕ, List, Option};
+ghost use Rattle.era_layout.specs.Root.{RootFields, IsValidRoot};
+ghost use Rattle.era_model.specs.Marks.{BlockMarks};
+ghost use Rattle.era_model.specs.Validity.{AreValidMarks};
+ghost use Rattle.era_meta.specs.Areas.{HasFreeArea, LieInAreas};
+ghost use Rattle.era_meta.specs.Content.{blocks_of_root, content_of, marks_in, IsWholeContent};
+ghost use Rattle.era_meta.specs.Meaning.{reached};
+ghost use Rattle.era_meta.specs.SaysMarks.{SaysMarks, IsRootFor};
+
+/// A root of valid marks whose pages say these marks, page by page, says them, and no kind of damage of a page applies
+/// to its pages.
+pub fn pages_say_marks()
+    ensures marks { (page : ℕ → List ℕ) (root : RootFields) (m : BlockMarks) → IsValidRoot root
+        → AreValidMarks m → IsRootFor root m → SaysMarks m (content_of page root)
+        → marks_in root (content_of page root) ≡ m }
+    ensures whole { (page : ℕ → List ℕ) (root : RootFields) (m : BlockMarks) → IsValidRoot root
+        → AreValidMarks m → IsRootFor root m → SaysMarks m (content_of page root)
+        → IsWholeContent root (content_of page root) }
+{}
+
+/// A root and its held root, each of which has its pages in one of the three page areas, leave one area free.
+pub fn two_roots_leave_an_area()
+    ensures { (root : RootFields) (held : Option RootFields) → LieInAreas root held
+        → HasFreeArea (blocks_of_root root) (reached root held) }
+{}
