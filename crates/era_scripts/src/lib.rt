@@ -26,6 +26,8 @@ mod plain_calls;
 #[cfg(test)]
 mod plain_disks;
 #[cfg(test)]
+mod slot_bytes;
+#[cfg(test)]
 mod slot_calls;
 #[cfg(test)]
 mod slot_commits;
