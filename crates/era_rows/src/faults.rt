@@ -1,125 +1,173 @@
 //! Devices that fail.
 
-use crate::bench::{TABLE, add_write, all_are, bay, run};
+use crate::row::Answer::Whole;
+use crate::row::Fails::{self, Disk};
+use crate::row::Sent::{Text, Write};
+use crate::row::{Row, SERVE};
+use crate::run::{first_unmet, run_over};
 use era_base::Bay;
-use era_disks::{BayCall, DiskCall};
+use era_disks::{BayCall, DiskCall, MemBay, TextSink, TextSource};
+use std::alloc::Global;
 use std::test::Fail;
 
-#[test]
-fn the_first_failed_write_ends_the_session(rt: HostRuntime) -> Result<(), Fail> {
-    let alloc = rt.alloc();
-    let mut stream = String::new(alloc);
-    add_write(&mut stream, "0", "aa", 1)?;
-    add_write(&mut stream, "8", "bb", 1)?;
-    let rows: [(u64, &[u8]); 2] = [
-        (0, b"open 1 64\n1 fault data 1 t0 m1 g2 c3\nend 1 4\n"),
-        (
-            1,
-            b"open 1 64\n1 ok t0 m1 g2 d3\n2 fault data 1 t4 m5 g6 c7\nend 1 8\n",
-        ),
-    ];
-    for (failing, expected) in rows {
-        let ran = run(
-            &rt,
-            alloc,
-            &["serve", TABLE],
-            stream.as_bytes(),
-            bay(alloc, 512, &[failing])?,
-        )?;
-        assert_eq!(rt; ran.text.as_slice(), expected);
-        assert_eq!(rt; ran.status, 4);
-        assert!(rt; all_are(ran.origin.as_slice(), 4_096, 262_144, 0));
-    }
-    Ok(())
-}
+/// Two writes in two eras, and a list, of which all succeed.
+const SERVED: Row<'static> = Row {
+    shows: "a session without a fault",
+    words: SERVE,
+    origin: 512,
+    fails: &[],
+    stream: &[
+        Write("0", "aa", 1),
+        Text("0 checkpoint\n"),
+        Write("8", "bb", 1),
+        Text("0 list 1\n"),
+    ],
+    answer: Whole(
+        "open 1 64\n\
+         1 ok t0 m1 g2 d3\n\
+         2 era 2 e4\n\
+         3 ok t5 m6 g7 d8\n\
+         4 blocks 0-1 l9\n\
+         end 2 10\n",
+    ),
+    status: 0,
+    holds: &[
+        (0, 512, 170),
+        (512, 4_096, 0),
+        (4_096, 4_608, 187),
+        (4_608, 262_144, 0),
+    ],
+};
+
+/// What the same stream is answered where its first write fails.
+const FIRST: &str = "open 1 64\n1 fault data 1 t0 m1 g2 c3\nend 1 4\n";
+
+/// What it is answered where its second write fails.
+const SECOND: &str =
+    "open 1 64\n1 ok t0 m1 g2 d3\n2 era 2 e4\n3 fault data 1 t5 m6 g7 c8\nend 2 9\n";
+
+static DISKS: [Row<'static>; 8] = [
+    Row { ..SERVED },
+    Row {
+        shows: "the first write",
+        fails: &[Disk(DiskCall::Write, 0)],
+        answer: Whole(FIRST),
+        status: 4,
+        holds: &[(0, 262_144, 0)],
+        ..SERVED
+    },
+    Row {
+        shows: "nothing is run behind a cut write",
+        fails: &[Disk(DiskCall::Write, 1)],
+        answer: Whole(SECOND),
+        status: 4,
+        holds: &[(0, 512, 170), (512, 262_144, 0)],
+        ..SERVED
+    },
+    Row {
+        shows: "the first sync, behind a write that is kept",
+        fails: &[Disk(DiskCall::Sync, 0)],
+        answer: Whole(FIRST),
+        status: 4,
+        holds: &[(0, 512, 170), (512, 262_144, 0)],
+        ..SERVED
+    },
+    Row {
+        shows: "the second sync",
+        fails: &[Disk(DiskCall::Sync, 1)],
+        answer: Whole(SECOND),
+        status: 4,
+        ..SERVED
+    },
+    Row {
+        shows: "calls that are not made",
+        fails: &[
+            Disk(DiskCall::Sync, 2),
+            Disk(DiskCall::Write, 2),
+            Disk(DiskCall::Read, 0),
+        ],
+        ..SERVED
+    },
+    Row {
+        shows: "a second write to a block",
+        fails: &[Disk(DiskCall::Write, 1)],
+        stream: &[
+            Write("0", "aa", 1),
+            Write("1", "bb", 1),
+            Write("2", "cc", 1),
+        ],
+        answer: Whole("open 1 64\n1 ok t0 m1 g2 d3\n2 fault data 1 g4 c5\nend 1 6\n"),
+        status: 4,
+        holds: &[(0, 512, 170), (512, 262_144, 0)],
+        ..SERVED
+    },
+    Row {
+        shows: "an origin that the bay lacks",
+        words: &["serve", "0 512 era meta nothing 8"],
+        answer: Whole("fault bay 1\n"),
+        status: 4,
+        holds: &[(0, 262_144, 0)],
+        ..SERVED
+    },
+];
+
+/// An empty session that a call of the bay ends.
+const UNOPENED: Row<'static> = Row {
+    shows: "a call of the bay",
+    stream: &[],
+    answer: Whole("fault bay 1\n"),
+    status: 4,
+    holds: &[(0, 262_144, 0)],
+    ..SERVED
+};
+
+static BAYS: [Row<'static>; 3] = [
+    Row {
+        shows: "the size of the origin",
+        fails: &[Fails::Bay(BayCall::Size, 0)],
+        ..UNOPENED
+    },
+    Row {
+        shows: "its opening",
+        fails: &[Fails::Bay(BayCall::OpenPart, 0)],
+        ..UNOPENED
+    },
+    Row {
+        shows: "calls that are not made",
+        fails: &[
+            Fails::Bay(BayCall::Size, 1),
+            Fails::Bay(BayCall::OpenPart, 1),
+            Fails::Bay(BayCall::OpenMeta, 0),
+        ],
+        answer: Whole("open 1 64\nend 1 0\n"),
+        status: 0,
+        ..UNOPENED
+    },
+];
 
 #[test]
-fn a_second_write_to_a_block_may_fail_too(rt: HostRuntime) -> Result<(), Fail> {
-    let alloc = rt.alloc();
-    let mut stream = String::new(alloc);
-    add_write(&mut stream, "0", "aa", 1)?;
-    add_write(&mut stream, "1", "bb", 1)?;
-    add_write(&mut stream, "2", "cc", 1)?;
-    let ran = run(
-        &rt,
-        alloc,
-        &["serve", TABLE],
-        stream.as_bytes(),
-        bay(alloc, 512, &[1])?,
-    )?;
-    let expected = b"open 1 64\n1 ok t0 m1 g2 d3\n2 fault data 1 g4 c5\nend 1 6\n";
-    assert_eq!(rt; ran.text.as_slice(), expected.as_slice());
-    assert_eq!(rt; ran.status, 4);
-    assert!(rt; all_are(ran.origin.as_slice(), 0, 512, 170));
-    Ok(())
-}
-
-#[test]
-fn an_origin_that_the_bay_lacks_is_a_fault(rt: HostRuntime) -> Result<(), Fail> {
-    let alloc = rt.alloc();
-    let ran = run(
-        &rt,
-        alloc,
-        &["serve", "0 512 era meta nothing 8"],
-        b"",
-        bay(alloc, 512, &[])?,
-    )?;
-    assert_eq!(rt; ran.text.as_slice(), b"fault bay 1\n".as_slice());
-    assert_eq!(rt; ran.status, 4);
-    Ok(())
-}
-
-#[test]
-fn the_first_failed_sync_ends_the_session(rt: HostRuntime) -> Result<(), Fail> {
-    let alloc = rt.alloc();
-    let mut stream = String::new(alloc);
-    add_write(&mut stream, "0", "aa", 1)?;
-    stream.push_str("0 checkpoint\n")?;
-    add_write(&mut stream, "8", "bb", 1)?;
-    stream.push_str("0 list 1\n")?;
-    let first: &[u8] = b"open 1 64\n1 fault data 1 t0 m1 g2 c3\nend 1 4\n";
-    let later: &[u8] =
-        b"open 1 64\n1 ok t0 m1 g2 d3\n2 era 2 e4\n3 fault data 1 t5 m6 g7 c8\nend 2 9\n";
-    let whole: &[u8] =
-        b"open 1 64\n1 ok t0 m1 g2 d3\n2 era 2 e4\n3 ok t5 m6 g7 d8\n4 blocks 0-1 l9\nend 2 10\n";
-    for (call, number, expected, status, byte) in [
-        (DiskCall::Sync, 0, first, 4, 0),
-        (DiskCall::Sync, 1, later, 4, 187),
-        (DiskCall::Sync, 2, whole, 0, 187),
-        (DiskCall::Write, 2, whole, 0, 187),
-        (DiskCall::Read, 0, whole, 0, 187),
-    ] {
-        let mut bay = bay(alloc, 512, &[])?;
-        bay.fail_disk("origin", call, number)?;
-        let ran = run(&rt, alloc, &["serve", TABLE], stream.as_bytes(), bay)?;
-        assert_eq!(rt; ran.text.as_slice(), expected);
-        assert_eq!(rt; ran.status, status);
-        let origin = ran.origin.as_slice();
-        assert!(rt; all_are(origin, 0, 512, 170) && all_are(origin, 512, 4_096, 0));
-        assert!(rt; all_are(origin, 4_096, 4_608, byte) && all_are(origin, 4_608, 262_144, 0));
-    }
+fn a_fault_ends_the_session(rt: HostRuntime) -> Result<(), Fail> {
+    let unmet = first_unmet(&rt, rt.alloc(), DISKS.as_slice())?;
+    assert_eq!(rt; unmet, None);
     Ok(())
 }
 
 #[test]
 fn a_bay_that_refuses_the_origin_is_a_fault(rt: HostRuntime) -> Result<(), Fail> {
-    let alloc = rt.alloc();
-    let fault: &[u8] = b"fault bay 1\n";
-    let served: &[u8] = b"open 1 64\nend 1 0\n";
-    for (call, number, expected, status) in [
-        (BayCall::Size, 0, fault, 4),
-        (BayCall::Size, 1, served, 0),
-        (BayCall::OpenPart, 0, fault, 4),
-        (BayCall::OpenPart, 1, served, 0),
-        (BayCall::OpenMeta, 0, served, 0),
-    ] {
-        let mut bay = bay(alloc, 512, &[])?;
-        bay.fail(call, number)?;
-        let ran = run(&rt, alloc, &["serve", TABLE], b"", bay)?;
-        assert_eq!(rt; ran.text.as_slice(), expected);
-        assert_eq!(rt; ran.status, status);
-    }
+    let unmet = first_unmet(&rt, rt.alloc(), BAYS.as_slice())?;
+    assert_eq!(rt; unmet, None);
     Ok(())
+}
+
+/// A bay that has lent the last sector of its origin of 512 sectors.
+fn lent_bay(alloc: Global) -> Result<MemBay, Fail> {
+    let mut bay = MemBay::new(alloc);
+    bay.add("origin", 512)?;
+    let size = bay.size("origin")?;
+    if size == 512 {
+        let _last = bay.open_part("origin", 511, 1)?;
+    }
+    Ok(bay)
 }
 
 #[test]
@@ -127,12 +175,12 @@ fn an_origin_that_is_lent_already_is_a_fault(rt: HostRuntime) -> Result<(), Fail
     let alloc = rt.alloc();
     let fault: &[u8] = b"fault bay 1\n";
     let served: &[u8] = b"open 1 64\nend 1 0\n";
-    for (table, expected, status) in [(TABLE, fault, 4), ("0 511 era meta origin 8", served, 0)] {
-        let mut bay = bay(alloc, 512, &[])?;
-        let size = bay.size("origin")?;
-        assert!(rt; size == 512);
-        let _last = bay.open_part("origin", 511, 1)?;
-        let ran = run(&rt, alloc, &["serve", table], b"", bay)?;
+    let whole = "0 512 era meta origin 8";
+    for (table, expected, status) in [(whole, fault, 4), ("0 511 era meta origin 8", served, 0)] {
+        let source = TextSource::new(alloc, b"")?;
+        let sink = TextSink::new(alloc);
+        let bay = lent_bay(alloc)?;
+        let ran = run_over(&rt, alloc, &["serve", table], source, sink, bay)?;
         assert_eq!(rt; ran.text.as_slice(), expected);
         assert_eq!(rt; ran.status, status);
     }

@@ -1,10 +1,22 @@
 //! A session over a real image.
 
-use crate::bench::{add_write, all_are};
+use crate::row::Sent::{self, Text, Write};
+use crate::run::{holds, spell};
 use era_disks::{FileBay, FreePace, TextSink, TextSource};
 use era_top::era_top;
 use std::test::Fail;
 use std::{env, fs, process};
+
+/// Writes to three blocks of eight, and lists of two eras.
+static SMALL: [Sent<'static>; 7] = [
+    Write("0", "aa", 1),
+    Write("1", "bb", 1),
+    Write("8", "cc", 1),
+    Write("64", "dd", 1),
+    Text("0 checkpoint\n"),
+    Write("56", "ff", 8),
+    Text("0 list 1\n0 list 2\n"),
+];
 
 /// A path that no other test has.
 fn path_of(rt: &HostRuntime, name: &str) -> Result<String, Fail> {
@@ -19,20 +31,13 @@ fn a_small_image_is_served(rt: HostRuntime) -> Result<(), Fail> {
     let alloc = rt.alloc();
     let path = path_of(&rt, "origin")?;
     fs::write(&rt, path.as_str(), [0u8; 32_768].as_slice())?;
-    let mut stream = String::new(alloc);
-    add_write(&mut stream, "0", "aa", 1)?;
-    add_write(&mut stream, "1", "bb", 1)?;
-    add_write(&mut stream, "8", "cc", 1)?;
-    add_write(&mut stream, "64", "dd", 1)?;
-    stream.push_str("0 checkpoint\n")?;
-    add_write(&mut stream, "56", "ff", 8)?;
-    stream.push_str("0 list 1\n0 list 2\n")?;
+    let stream = spell(alloc, SMALL.as_slice())?;
     let image = path.as_str();
     let words = [
         String::from_str(alloc, "serve")?,
         format!(in alloc; "0 64 era meta {image} 8")?,
     ];
-    let mut source = TextSource::new(alloc, stream.as_bytes())?;
+    let mut source = TextSource::new(alloc, stream.as_slice())?;
     let mut sink = TextSink::new(alloc);
     let mut bay = FileBay::new(rt, alloc);
     let status = era_top(
@@ -49,10 +54,15 @@ fn a_small_image_is_served(rt: HostRuntime) -> Result<(), Fail> {
     assert_eq!(rt; sink.given(), expected.as_slice());
     assert_eq!(rt; status, 0);
     let bytes = fs::read(&rt, path.as_str())?;
-    let bytes = bytes.as_slice();
-    assert!(rt; all_are(bytes, 0, 512, 170) && all_are(bytes, 512, 1_024, 187));
-    assert!(rt; all_are(bytes, 1_024, 4_096, 0) && all_are(bytes, 4_096, 4_608, 204));
-    assert!(rt; all_are(bytes, 4_608, 28_672, 0) && all_are(bytes, 28_672, 32_768, 255));
+    let ranges = [
+        (0, 512, 170),
+        (512, 1_024, 187),
+        (1_024, 4_096, 0),
+        (4_096, 4_608, 204),
+        (4_608, 28_672, 0),
+        (28_672, 32_768, 255),
+    ];
+    assert!(rt; ranges.iter().all(|range| holds(bytes.as_slice(), range)));
     fs::remove_file(&rt, path.as_str())?;
     Ok(())
 }

@@ -2,20 +2,26 @@
 #![tactic(auto)]
 
 #[cfg(test)]
-mod bench;
+mod eras;
 #[cfg(test)]
 mod faults;
 #[cfg(test)]
 mod images;
 #[cfg(test)]
-mod lists;
+mod limits;
 #[cfg(test)]
-mod needs;
+mod lists;
 #[cfg(test)]
 mod pieces;
 #[cfg(test)]
 mod refusals;
 #[cfg(test)]
+mod row;
+#[cfg(test)]
+mod run;
+#[cfg(test)]
 mod streams;
+#[cfg(test)]
+mod words;
 #[cfg(test)]
 mod writes;
