@@ -1,6 +1,6 @@
 //! The era array.
 
-ghost use Rattle.std.specs.Prelude.{◌≡◌, ℕ, ◌<◌, ◌≤◌, length, replicate, slice_index, IfOk};
+ghost use Rattle.std.specs.Prelude.{◌≡◌, ℕ, ◌+◌, ◌<◌, ◌≤◌, length, replicate, slice_index, IfOk};
 ghost use Rattle.std.specs.Int.{div_ceil};
 ghost use Rattle.era_base.specs.Runs.{ListExactly};
 ghost use Rattle.era_array.specs.Entries.{transcribed_entry, entered_since};
@@ -68,6 +68,20 @@ impl EraArray {
             if has_bit(words, (block - first) as u32) {
                 self.eras[block] = era;
             }
+        }
+    }
+
+    /// Puts eras into the places of a block and of those behind it. It takes no memory.
+    pub fn put_entries(&mut self, first: u32, eras: &[u32])
+        requires { first + length eras.now ≤ length self.old }
+        ensures size { length self.new ≡ length self.old }
+        ensures put { (index : ℕ) → index < length eras.now
+            → slice_index self.new (first + index) ≡ slice_index eras.now index }
+        ensures others { (block : ℕ) → (first ≤ block → first + length eras.now ≤ block)
+            → slice_index self.new block ≡ slice_index self.old block }
+    {
+        for (index, era) in eras.iter().enumerate() {
+            self.eras[first as usize + index] = *era;
         }
     }
 
