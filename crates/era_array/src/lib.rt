@@ -5,6 +5,3 @@ mod era_array;
 mod since;
 
 pub use era_array::EraArray;
-
-#[cfg(test)]
-mod tests;

@@ -15,8 +15,6 @@ mod offsets;
 mod page_list;
 mod page_numbers;
 mod root;
-#[cfg(test)]
-mod tests;
 
 pub use archive::{ArchiveList, Archived};
 pub use array_page::{check_array_page, encode_array_page, era_at};

@@ -22,8 +22,3 @@ pub use status_line::{read_status, status_text};
 pub use table_line::{LineFault, TableLine, read_table, write_table};
 pub use text_buffer::TextBuffer;
 pub use words::{cut_at, split_number, split_u32, split_word};
-
-#[cfg(test)]
-mod reading_tests;
-#[cfg(test)]
-mod tests;

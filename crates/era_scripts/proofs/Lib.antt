@@ -1,2 +1,1 @@
-pub mod SmallMarks
 mod LoanLists

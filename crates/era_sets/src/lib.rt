@@ -5,6 +5,3 @@ mod bit_set;
 mod words;
 
 pub use bit_set::BitSet;
-
-#[cfg(test)]
-mod tests;

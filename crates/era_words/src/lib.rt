@@ -14,6 +14,3 @@ mod rules;
 pub use errors::WordsError;
 pub use job::Job;
 pub use read::read_words;
-
-#[cfg(test)]
-mod tests;

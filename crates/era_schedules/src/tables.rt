@@ -41,14 +41,28 @@ pub const BROKEN: [Move; 5] = [
 /// The era moved to 2, and the metadata disk failed then, with a count of 3.
 pub const VOLATILE: [Move; 2] = [Roll(0, 2), Refused(0, Kind::Checkpoint, Why::MetaFault(3))];
 
-/// Block 0 is marked, and so many switches of the era follow.
-pub fn switched(alloc: Global, count: u32) -> Result<Vec<Move>, Fail> {
-    let mut moves = Vec::from_slice(alloc, MARKED.as_slice())?;
-    for number in 0..count.min(1_000) {
-        moves.push(Roll(number + 1, number + 2))?;
-    }
-    Ok(moves)
-}
+/// Block 0 is marked, and seventeen switches of the era follow.
+pub const SWITCHED: [Move; 19] = [
+    Tried(0, 0, 1),
+    Mark(0, 0, 1),
+    Roll(1, 2),
+    Roll(2, 3),
+    Roll(3, 4),
+    Roll(4, 5),
+    Roll(5, 6),
+    Roll(6, 7),
+    Roll(7, 8),
+    Roll(8, 9),
+    Roll(9, 10),
+    Roll(10, 11),
+    Roll(11, 12),
+    Roll(12, 13),
+    Roll(13, 14),
+    Roll(14, 15),
+    Roll(15, 16),
+    Roll(16, 17),
+    Roll(17, 18),
+];
 
 /// Why the machine stops in these steps, from the era on, or `None`.
 fn stop_of(

@@ -10,7 +10,7 @@ use std::alloc::Global;
 use std::test::Fail;
 
 /// Archived sets, oldest first.
-#[derive(Clone, Copy, Debug)]
+#[derive(Clone, Copy)]
 pub enum Archived {
     None,
     /// A set of the blocks from the first to the second one, with its era.
@@ -22,7 +22,7 @@ pub enum Archived {
 }
 
 /// Marks of 64 blocks. Blocks are a run, the first and the last one.
-#[derive(Clone, Copy, Debug)]
+#[derive(Clone, Copy)]
 pub struct Marked {
     pub era: u32,
     /// Blocks with this era in the array.
@@ -33,7 +33,7 @@ pub struct Marked {
 }
 
 /// What a crash leaves: the bytes of the origin's first two sectors, before zeros, and marks.
-#[derive(Clone, Copy, Debug)]
+#[derive(Clone, Copy)]
 pub struct Left {
     pub sectors: [u8; 2],
     pub marks: Marked,

@@ -1,5 +1,5 @@
-use Rattle.era_scripts.proofs.SmallMarks.{within-push}
-use Rattle.era_scripts.proofs.small_images.many_sets.Goals as goal
+use Rattle.era_schedules.proofs.SmallMarks.{within-push}
+use Rattle.era_schedules.proofs.small_images.many_sets.Goals as goal
 
 -- one more set was pushed
 pub loop-before-preserved : goal.loop-before-preserved

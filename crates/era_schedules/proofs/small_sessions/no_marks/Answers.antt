@@ -1,5 +1,5 @@
-use Rattle.era_scripts.proofs.SmallMarks.{valid-no_runs}
-use Rattle.era_scripts.proofs.small_sessions.no_marks.Goals as goal
+use Rattle.era_schedules.proofs.SmallMarks.{valid-no_runs}
+use Rattle.era_schedules.proofs.small_sessions.no_marks.Goals as goal
 
 -- no block is marked
 pub returns-clause-valid : goal.returns-clause-valid

@@ -1,7 +1,7 @@
 //! Write sets, and the runs of their blocks.
 
-use crate::BitSet;
 use era_base::{Memory, RunSource};
+use era_sets::BitSet;
 use std::alloc::Global;
 use std::process::Abort;
 use std::test::Fail;

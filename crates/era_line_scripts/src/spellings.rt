@@ -1,8 +1,8 @@
 //! Spellings of words. A row has the words with a bar between two, and what they ask for: the command and the values
 //! of its fields, or `usage`.
 
-use crate::{Job, WordsError, read_words};
 use era_line::TableLine;
+use era_words::{Job, WordsError, read_words};
 use std::alloc::{AllocError, Global};
 use std::test::*;
 

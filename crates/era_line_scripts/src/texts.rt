@@ -1,7 +1,10 @@
 //! Texts that are read and written, and texts that aren't.
 
-use super::*;
 use era_base::{Failed, Name, Sink};
+use era_line::{
+    LineFault, Message, Part, TableLine, TextBuffer, give_parts, message_text, read_message,
+    read_status, read_table, split_number, split_u32, split_word, status_text, write_table,
+};
 use std::test::*;
 
 #[test]

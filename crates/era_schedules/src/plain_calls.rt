@@ -117,41 +117,76 @@ fn two_requests(alloc: Global) -> Result<Journal, Fail>
     })
 }
 
+/// A place of a journal, an era, and the runs of blocks that are told of them.
+type Told<'a> = (u64, u32, &'a [(u32, u32)]);
+
+/// Whether a mark of just these blocks was asked for, in each row.
+fn has_asked(alloc: Global, journal: &Journal, rows: &[Told<'_>]) -> Result<bool, Memory>
+    requires { TellsAllBytes journal.now.opening }
+{
+    for (place, era, runs) in rows {
+        if *place > journal.entries.as_slice().len() as u64 {
+            return Ok(false);
+        }
+        if asked_since(alloc, journal, *place, *era)?.as_slice() != *runs {
+            return Ok(false);
+        }
+    }
+    Ok(true)
+}
+
+/// Whether the content of just these blocks has changed, in each row.
+fn has_changed(alloc: Global, journal: &Journal, rows: &[Told<'_>]) -> Result<bool, Memory>
+    requires { TellsAllBytes journal.now.opening }
+{
+    for (place, era, runs) in rows {
+        if *place > journal.entries.as_slice().len() as u64 {
+            return Ok(false);
+        }
+        if changed_since(alloc, journal, *place, *era)?.as_slice() != *runs {
+            return Ok(false);
+        }
+    }
+    Ok(true)
+}
+
+/// What two writes leave in a block of zeros.
+fn two_sectors_and_zeros(alloc: Global) -> Result<Bytes, Memory> {
+    let mut bytes = vec![in alloc; 0xaa; 512]?;
+    bytes.extend_from_slice([0xbb; 512].as_slice())?;
+    bytes.extend_from_slice([0; 3_072].as_slice())?;
+    Ok(Bytes::from_vec(bytes))
+}
+
+/// Whether block 0 has these bytes at the place.
+fn has_content(alloc: Global, journal: &Journal, place: u64, bytes: &[u8]) -> Result<bool, Memory>
+    requires { TellsAllBytes journal.now.opening }
+{
+    if place > journal.entries.as_slice().len() as u64 {
+        return Ok(false);
+    }
+    Ok(content_at(alloc, journal, place, 0)?.as_slice() == bytes)
+}
+
+static REQUESTS: [Told<'static>; 3] = [(3, 1, &[(0, 1)]), (3, 2, &[(1, 1)]), (3, 3, &[])];
+
 #[test]
 fn asked_since_an_era_has_the_requests_of_later_ones(rt: HostRuntime) -> Result<(), Fail> {
     let journal = two_requests(rt.alloc())?;
-    assert_eq!(rt; journal.entries.as_slice().len(), 3);
-    let both = asked_since(rt.alloc(), &journal, 3, 1)?;
-    assert!(rt; both.as_slice() == [(0, 1)].as_slice());
-    let later = asked_since(rt.alloc(), &journal, 3, 2)?;
-    assert!(rt; later.as_slice() == [(1, 1)].as_slice());
-    let none = asked_since(rt.alloc(), &journal, 3, 3)?;
-    assert!(rt; none.as_slice() == [].as_slice());
+    assert!(rt; has_asked(rt.alloc(), &journal, REQUESTS.as_slice())?);
     Ok(())
 }
+
+static CHANGES: [Told<'static>; 2] = [(7, 1, &[(0, 0)]), (7, 2, &[])];
+
+static MARKS: [Told<'static>; 2] = [(7, 1, &[(0, 0)]), (0, 1, &[])];
 
 #[test]
 fn plain_calls_tell_what_was_written(rt: HostRuntime) -> Result<(), Fail> {
     let journal = two_writes_and_a_read(rt.alloc())?;
-    assert_eq!(rt; journal.entries.as_slice().len(), 7);
-    let content = content_at(rt.alloc(), &journal, 6, 0)?;
-    let mut expected = vec![in rt.alloc(); 0xaa; 512]?;
-    expected.extend_from_slice([0xbb; 512].as_slice())?;
-    expected.extend_from_slice([0; 3_072].as_slice())?;
-    assert!(rt; content.as_slice() == expected.as_slice());
-    let changed = changed_since(rt.alloc(), &journal, 7, 1)?;
-    assert_eq!(rt; changed.as_slice().len(), 1);
-    assert!(rt; changed.as_slice()[0] == (0, 0));
-    let asked = asked_since(rt.alloc(), &journal, 7, 1)?;
-    assert_eq!(rt; asked.as_slice().len(), 1);
-    assert!(rt; asked.as_slice()[0] == (0, 0));
-    assert_eq!(rt;
-        asked_since(rt.alloc(), &journal, 0, 1)?.as_slice().len(),
-        0
-    );
-    assert_eq!(rt;
-        changed_since(rt.alloc(), &journal, 7, 2)?.as_slice().len(),
-        0
-    );
+    let expected = two_sectors_and_zeros(rt.alloc())?;
+    assert!(rt; has_content(rt.alloc(), &journal, 6, expected.as_slice())?);
+    assert!(rt; has_changed(rt.alloc(), &journal, CHANGES.as_slice())?);
+    assert!(rt; has_asked(rt.alloc(), &journal, MARKS.as_slice())?);
     Ok(())
 }

@@ -2,12 +2,12 @@
 
 ghost use Rattle.std.specs.Prelude.{◌≡◌, ◌+◌, ◌≤◌, length, vec_len, IfOk};
 
-use crate::{
+use era_base::{MOST_SETS, Memory};
+use era_layout::{
     ArchiveList, Archived, DamageKind, PageError, PageList, Root, RootError, bit_at,
     check_array_page, check_bits_page, check_held_root, check_root, decode_held_root, decode_root,
     encode_array_page, encode_bits_page, encode_root, era_at, renumber,
 };
-use era_base::{MOST_SETS, Memory};
 use std::alloc::{AllocError, Global};
 use std::test::*;
 

@@ -1,6 +1,6 @@
 //! The era array: pages that are transcribed, and what was written since an era.
 
-use crate::EraArray;
+use era_array::EraArray;
 use std::test::Fail;
 
 #[test]

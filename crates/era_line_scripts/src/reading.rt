@@ -1,7 +1,7 @@
 //! The reader over a source that gives its text in pieces.
 
-use crate::{LineReader, Next, ReadError};
 use era_base::{Failed, Source};
+use era_line::{LineReader, Next, ReadError};
 use std::alloc::Global;
 use std::test::*;
 
