@@ -1,3 +1,5 @@
-pub mod Spelling
-pub mod RoundSteps
-pub mod ReadSteps
+pub mod WordNumbers
+pub mod LineForms
+pub mod Sayable
+pub mod StreamSteps
+pub mod ReadingSteps

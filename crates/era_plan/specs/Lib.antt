@@ -1,4 +1,9 @@
-pub mod Grammar
-pub mod Rounds
+pub mod Commands
+pub mod Numbers
+pub mod Forms
+pub mod Kinds
+pub mod Stream
+pub mod Reading
+pub mod Taking
+pub mod RowsOfStreams
 pub mod Errors
-pub mod Inside

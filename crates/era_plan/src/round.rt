@@ -16,10 +16,23 @@ pub struct Round {
     pub commands: CommandList,
 }
 
-/// Why a line is refused.
+/// Why a line is refused, in the order of the tests: a line has the first kind that applies to it.
 #[derive(Clone, Copy, Debug, PartialEq, Eq)]
 pub enum LineKind {
-    /// It spells no command that is served yet, or there would be more than 4,096 commands or 67,108,864 bytes.
+    /// It has more than 131,200 bytes.
+    LongLine,
+    /// The number of its words and its command word fit no form.
+    Unknown,
+    /// Its lane, sector, count or era isn't a decimal in its range.
+    BadNumber,
+    /// The last word of a write isn't hexadecimal digits of 1 to 128 whole sectors.
+    BadHex,
+    /// With its command the round would have more than 4,096 commands or 67,108,864 bytes.
+    RoundBig,
+    /// Its number is above 131,072, or with its command the session would have more than 65,536 commands or 268,435,456
+    /// bytes.
+    TooMany,
+    /// The session doesn't serve its command yet.
     NotYet,
 }
 
