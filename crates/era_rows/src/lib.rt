@@ -16,6 +16,8 @@ mod pieces;
 #[cfg(test)]
 mod refusals;
 #[cfg(test)]
+mod rounds;
+#[cfg(test)]
 mod row;
 #[cfg(test)]
 mod run;

@@ -24,12 +24,19 @@ const LIMIT: Row<'static> = Row {
     holds: &[(0, 262_144, 0)],
 };
 
-static LIMITS: [Row<'static>; 3] = [
+static LIMITS: [Row<'static>; 4] = [
     Row { ..LIMIT },
     Row {
         shows: "one command too many",
         stream: &[Many("0 list 1\n", 4_097)],
-        answer: Whole("open 1 64\nline 4097 NotYet\nend 1 0\n"),
+        answer: Whole("open 1 64\nline 4097 RoundBig\nend 1 0\n"),
+        status: 3,
+        ..LIMIT
+    },
+    Row {
+        shows: "one command too many, of those that are not served yet",
+        stream: &[Many("0 status\n", 4_097)],
+        answer: Whole("open 1 64\nline 4097 RoundBig\nend 1 0\n"),
         status: 3,
         ..LIMIT
     },

@@ -1,4 +1,4 @@
-//! Lines that are refused. Nothing of the stream is run then.
+//! Lines that are refused, each by its kind. Nothing of their round is run then.
 
 use crate::row::Answer::Whole;
 use crate::row::Sent::{Bytes, Digits, Text, Write};
@@ -6,7 +6,7 @@ use crate::row::{Row, SERVE};
 use crate::run::first_unmet;
 use std::test::Fail;
 
-/// A good write and then a line that isn't served, so that nothing is written.
+/// A good write and then a line that is refused, so that nothing is written.
 const REFUSED: Row<'static> = Row {
     shows: "a line that is not served yet",
     words: SERVE,
@@ -18,7 +18,32 @@ const REFUSED: Row<'static> = Row {
     holds: &[(0, 262_144, 0)],
 };
 
-static ASKS: [Row<'static>; 13] = [
+/// The same where the line has no form, a number that is none, bytes that are none, or too many bytes.
+const UNKNOWN: Row<'static> = Row {
+    shows: "a line of no form",
+    answer: Whole("open 1 64\nline 2 Unknown\nend 1 0\n"),
+    ..REFUSED
+};
+
+const BAD_NUMBER: Row<'static> = Row {
+    shows: "a number that is none",
+    answer: Whole("open 1 64\nline 2 BadNumber\nend 1 0\n"),
+    ..REFUSED
+};
+
+const BAD_HEX: Row<'static> = Row {
+    shows: "bytes that are none",
+    answer: Whole("open 1 64\nline 2 BadHex\nend 1 0\n"),
+    ..REFUSED
+};
+
+const LONG_LINE: Row<'static> = Row {
+    shows: "a line that is too long",
+    answer: Whole("open 1 64\nline 2 LongLine\nend 1 0\n"),
+    ..REFUSED
+};
+
+static ASKS: [Row<'static>; 12] = [
     Row {
         stream: &[Text("0 status\n")],
         answer: Whole("open 1 64\nline 1 NotYet\nend 1 0\n"),
@@ -29,20 +54,16 @@ static ASKS: [Row<'static>; 13] = [
         ..REFUSED
     },
     Row {
-        stream: &[Write("0", "aa", 1), Text("run\n")],
-        ..REFUSED
-    },
-    Row {
         stream: &[Write("0", "aa", 1), Text("\n")],
-        ..REFUSED
+        ..UNKNOWN
     },
     Row {
         stream: &[Write("0", "aa", 1), Text("0 checkpoint 1\n")],
-        ..REFUSED
+        ..UNKNOWN
     },
     Row {
         stream: &[Write("0", "aa", 1), Text("0 checkpoint \n")],
-        ..REFUSED
+        ..UNKNOWN
     },
     Row {
         stream: &[Write("0", "aa", 1), Text("1 checkpoint\n")],
@@ -50,23 +71,23 @@ static ASKS: [Row<'static>; 13] = [
     },
     Row {
         stream: &[Write("0", "aa", 1), Text("0 list\n")],
-        ..REFUSED
+        ..UNKNOWN
     },
     Row {
         stream: &[Write("0", "aa", 1), Text("0 list \n")],
-        ..REFUSED
+        ..BAD_NUMBER
     },
     Row {
         stream: &[Write("0", "aa", 1), Text("0 list 01\n")],
-        ..REFUSED
+        ..BAD_NUMBER
     },
     Row {
         stream: &[Write("0", "aa", 1), Text("0 list 4294967296\n")],
-        ..REFUSED
+        ..BAD_NUMBER
     },
     Row {
         stream: &[Write("0", "aa", 1), Text("0 list 1 2\n")],
-        ..REFUSED
+        ..UNKNOWN
     },
     Row {
         stream: &[Write("0", "aa", 1), Text("0 list_snap 1\n")],
@@ -77,43 +98,43 @@ static ASKS: [Row<'static>; 13] = [
 static SHORT_WRITES: [Row<'static>; 10] = [
     Row {
         stream: &[Write("0", "aa", 1), Text("0 write\n")],
-        ..REFUSED
+        ..UNKNOWN
     },
     Row {
         stream: &[Write("0", "aa", 1), Text("0 write 0\n")],
-        ..REFUSED
+        ..UNKNOWN
     },
     Row {
         stream: &[Write("0", "aa", 1), Text("0 write 0 \n")],
-        ..REFUSED
+        ..BAD_HEX
     },
     Row {
         stream: &[Write("0", "aa", 1), Text("0 write 0 a\n")],
-        ..REFUSED
+        ..BAD_HEX
     },
     Row {
         stream: &[Write("0", "aa", 1), Text("0 write 0 aa\n")],
-        ..REFUSED
+        ..BAD_HEX
     },
     Row {
         stream: &[Write("0", "aa", 1), Text("0 write 0 zz\n")],
-        ..REFUSED
+        ..BAD_HEX
     },
     Row {
         stream: &[Write("0", "aa", 1), Text("0 write 18446744073709551616 aa")],
-        ..REFUSED
+        ..BAD_NUMBER
     },
     Row {
         stream: &[Write("0", "aa", 1), Text("0  write 0 aa\n")],
-        ..REFUSED
+        ..UNKNOWN
     },
     Row {
         stream: &[Write("0", "aa", 1), Text("0 write 0 aa\r\n")],
-        ..REFUSED
+        ..BAD_HEX
     },
     Row {
         stream: &[Write("0", "aa", 1), Bytes(b"\xff\xfe\x00\n")],
-        ..REFUSED
+        ..UNKNOWN
     },
 ];
 
@@ -134,7 +155,7 @@ static LONG_WRITES: [Row<'static>; 7] = [
             Digits("aa", 1),
             Text("\n"),
         ],
-        ..REFUSED
+        ..BAD_NUMBER
     },
     Row {
         stream: &[
@@ -143,7 +164,7 @@ static LONG_WRITES: [Row<'static>; 7] = [
             Digits("aa", 1),
             Text("\n"),
         ],
-        ..REFUSED
+        ..BAD_NUMBER
     },
     Row {
         stream: &[
@@ -152,7 +173,7 @@ static LONG_WRITES: [Row<'static>; 7] = [
             Digits("aa", 1),
             Text("aa\n"),
         ],
-        ..REFUSED
+        ..BAD_HEX
     },
     Row {
         stream: &[
@@ -161,11 +182,11 @@ static LONG_WRITES: [Row<'static>; 7] = [
             Digits("aa", 1),
             Text(" \n"),
         ],
-        ..REFUSED
+        ..UNKNOWN
     },
     Row {
         stream: &[Write("0", "aa", 1), Text("0 write 0 "), Digits("aa", 129)],
-        ..REFUSED
+        ..LONG_LINE
     },
     Row {
         stream: &[
@@ -174,7 +195,7 @@ static LONG_WRITES: [Row<'static>; 7] = [
             Digits("aa", 300),
             Text("\n0 write 0 aa\n"),
         ],
-        ..REFUSED
+        ..LONG_LINE
     },
 ];
 

@@ -86,8 +86,16 @@ pub fn run_over<R: Threads + Wait + Sync>(
     })
 }
 
+/// Whether a piece of a stream is the line that ends a round.
+fn ends_round(sent: &Sent<'_>) -> bool {
+    match *sent {
+        Sent::Text(text) => text == "run\n",
+        _ => false,
+    }
+}
+
 /// Whether a run answered and left what its row says. Text goes out in pieces of 4 KiB, but for what ends the first
-/// line, the round and the run.
+/// line, a round and the run.
 fn is_met(row: &Row<'_>, ran: &Ran) -> bool {
     let text = ran.text.as_slice();
     let answered = match row.answer {
@@ -97,9 +105,10 @@ fn is_met(row: &Row<'_>, ran: &Ran) -> bool {
         }
     };
     let origin = ran.origin.as_slice();
+    let rounds = row.stream.iter().filter(|sent| ends_round(*sent)).count() as u64;
     answered
         && ran.status == row.status
-        && ran.gives <= text.len() as u64 / 4_096 + 2
+        && ran.gives <= (text.len() as u64 / 4_096 + 3).saturating_add(rounds)
         && row.holds.iter().all(|range| holds(origin, range))
 }
 

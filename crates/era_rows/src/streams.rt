@@ -21,7 +21,7 @@ const UNREAD: Row<'static> = Row {
     holds: &[(0, 262_144, 0)],
 };
 
-static TAKES: [Row<'static>; 6] = [
+static TAKES: [Row<'static>; 7] = [
     Row { ..UNREAD },
     Row {
         shows: "a take in the middle",
@@ -35,7 +35,7 @@ static TAKES: [Row<'static>; 6] = [
     },
     Row {
         shows: "a take that is not made",
-        fails: &[Take(3)],
+        fails: &[Take(4)],
         answer: Around(
             "open 1 64\n1 ok t0 m1 g2 d3\n2 ok g4 d5\n",
             "\n69 ok g138 d139\n70 ok g140 d141\nend 1 142\n",
@@ -51,16 +51,22 @@ static TAKES: [Row<'static>; 6] = [
         ..UNREAD
     },
     Row {
-        shows: "a take behind a refused line",
+        shows: "a take behind a command that is not served yet, before its round has ended",
         fails: &[Take(2)],
         stream: &[Writes("0", "aa", 1, 70), Text("0 status\n")],
-        answer: Whole("open 1 64\nline 71 NotYet\nend 1 0\n"),
+        ..UNREAD
+    },
+    Row {
+        shows: "a take behind a refused line",
+        fails: &[Take(2)],
+        stream: &[Writes("0", "aa", 1, 70), Text("0 discard 0\n")],
+        answer: Whole("open 1 64\nline 71 Unknown\nend 1 0\n"),
         status: 3,
         ..UNREAD
     },
 ];
 
-/// Two writes, whose answers can't be given: the first line is one piece, and all behind it another one.
+/// Two writes, whose answers can't be given: the first line, the replies of the round and the last line are a piece each.
 const UNGIVEN: Row<'static> = Row {
     shows: "the first line",
     fails: &[Give(0, 0)],
@@ -70,7 +76,7 @@ const UNGIVEN: Row<'static> = Row {
     ..UNREAD
 };
 
-static GIVES: [Row<'static>; 6] = [
+static GIVES: [Row<'static>; 7] = [
     Row { ..UNGIVEN },
     Row {
         shows: "four bytes of the first line",
@@ -94,13 +100,20 @@ static GIVES: [Row<'static>; 6] = [
     Row {
         shows: "all of the answers, and a fault",
         fails: &[Give(1, 99)],
-        answer: Whole("open 1 64\n1 ok t0 m1 g2 d3\n2 ok g4 d5\nend 1 6\n"),
+        answer: Whole("open 1 64\n1 ok t0 m1 g2 d3\n2 ok g4 d5\n"),
+        holds: &[(0, 512, 170), (512, 1_024, 187)],
+        ..UNGIVEN
+    },
+    Row {
+        shows: "a part of the last line",
+        fails: &[Give(2, 5)],
+        answer: Whole("open 1 64\n1 ok t0 m1 g2 d3\n2 ok g4 d5\nend 1"),
         holds: &[(0, 512, 170), (512, 1_024, 187)],
         ..UNGIVEN
     },
     Row {
         shows: "a give that is not made",
-        fails: &[Give(2, 0)],
+        fails: &[Give(3, 0)],
         answer: Whole("open 1 64\n1 ok t0 m1 g2 d3\n2 ok g4 d5\nend 1 6\n"),
         status: 0,
         holds: &[(0, 512, 170), (512, 1_024, 187)],

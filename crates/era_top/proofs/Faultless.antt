@@ -1,5 +1,5 @@
 -- What a call ends with where nothing is refused and no count rises.
-use Rattle.std.proofs.Common.{◌≡◌, ◌⊎◌, inl, inr, ℕ, ◌<◌, ◌≤◌, List, [], refl, ap, sym, ◌∙◌, subst, arith}
+use Rattle.std.proofs.Common.{◌≡◌, ◌⊎◌, inl, inr, ℕ, ◌<◌, ◌≤◌, List, [], ◌∷◌, ◌++◌, All, refl, ap, sym, suc, ◌∙◌, subst, arith}
 use Rattle.std.specs.Prelude.{Option, Some}
 use Rattle.era_base.specs.declared.geometry.GeomError.{GeomError}
 use Rattle.era_base.specs.declared.geometry.Geometry.{Geometry}
@@ -7,8 +7,9 @@ use Rattle.era_base.specs.declared.geometry.GeomError.TheVariants.{BadBlockSize,
 use Rattle.era_base.specs.Faults.{Rose, NoneRose}
 use Rattle.era_base.specs.Geometry.{IsBlockSize, blocks_of}
 use Rattle.era_line.specs.declared.table_line.TableLine.{TableLine}
-use Rattle.era_plan.specs.Grammar.{lines_of}
-use Rattle.era_plan.proofs.RoundSteps.{SpellRound-take}
+use Rattle.era_model.specs.declared.command.Command.{Command}
+use Rattle.era_plan.specs.declared.round.LineKind.{LineKind}
+use Rattle.era_plan.specs.Stream.{AtEnd, RefusedAt, Stream, stream_rounds}
 use Rattle.era_top.specs.declared.refusal.Refusal.{Refusal}
 use Rattle.era_top.specs.declared.refusal.Refusal.TheVariants.{NoCommand, NotYet, NoRoom, NoGeometry, BayFault, TooSmall}
 use Rattle.era_top.specs.declared.status.Status.{Status}
@@ -16,7 +17,9 @@ use Rattle.era_top.specs.declared.status.Status.TheVariants.{Done, Usage, Line, 
 use Rattle.era_top.specs.Around.{DiskFacts, BayAround, StreamsAround, SomeCountRose, IsFaultless}
 use Rattle.era_top.specs.Refusals.{refusal_status}
 use Rattle.era_top.specs.Reports.{Report, Refuses, Needs, Serves, Reports, IsReported, IsCauseOf, IsNoGeometry}
-use Rattle.era_top.specs.Sessions.{Session, Around, EndsBy}
+use Rattle.era_top.specs.Runs.{IsServedCommand}
+use Rattle.era_top.specs.Endings.{EndsBy, RefusesLine}
+use Rattle.era_top.specs.Sessions.{Session, Around}
 use Rattle.era_top.specs.Top.{IsServable, number_of}
 use Rattle.era_top.specs.Words.{IsServe, IsNeed, IsNotYet, IsUnserved}
 use Rattle.era_words.specs.declared.job.Job.TheVariants as job
@@ -92,14 +95,27 @@ refusal-never D words bay left (TooSmall have need) servable refusing cause =
     servable.large_enough have (subst (λ (origin : List ℕ). bay.sizes origin ≡ Some have) same.origin cause.0.3) in
     omega (arith, same.sectors, cause.0.4, cause.1)
 
--- a stream whose lines spell a round isn't refused
+-- what holds of all holds of one of them
+all-middle : {X : Type 0} (P : X → Type 0) (before : List X) (at : X) (after : List X) → All P (before ++ at ∷ after) → P at
+all-middle P [] at after all = all 0 at (omega arith)
+all-middle P (first ∷ before) at after all = all-middle P before at after (λ k d kept. all (suc k) d (omega arith))
+
+-- no line is refused of a stream that was read to its end and whose commands are all served
+line-never : (rounds : List (List Command)) (line : ℕ) (kind : LineKind) (stream : Stream) → stream.end ≡ AtEnd → All (All IsServedCommand) stream.rounds
+    → RefusesLine rounds line kind stream → ⊥
+line-never rounds line kind stream ends served (inl refused) = let e : RefusedAt line kind ≡ AtEnd = sym (ap (λ s. s.end) refused) ∙ ends in absurd (cc)
+line-never rounds line kind stream ends served (inr (is, (round, unserved, goes))) =
+    let all = subst (All (All IsServedCommand)) (goes.joined ∙ ap (λ more. rounds ++ more) goes.rest.1) served in
+    let commands = subst (All IsServedCommand) unserved.split (all-middle (All IsServedCommand) rounds round goes.rest.0 all) in
+    unserved.unserved (all-middle IsServedCommand unserved.before unserved.command unserved.after commands)
+
+-- a stream whose rounds are all served isn't refused
 pub session-never : (words : List (List ℕ)) (sizes : List ℕ → Option ℕ) (left : Option (List ℕ)) (g : Geometry) (around : Around) (session : Session) (ended : Status)
     → around.left ≡ left → IsServable words sizes left → IsRefusing ended → EndsBy g around session ended → ⊥
 session-never words sizes left g around session Done is servable refusing cause = refusing
 session-never words sizes left g around session Usage is servable refusing cause = cause
 session-never words sizes left g around session Line is servable refusing cause =
-    let first = cause.1.2 servable.text (is ∙ servable.stream) in
-    first.refused _ (SpellRound-take cause.1.0 (lines_of servable.text) servable.commands servable.spelled)
+    line-never session.rounds cause.1.line cause.1.kind (stream_rounds servable.text) servable.ends servable.served (cause.1.stream servable.text (is ∙ servable.stream))
 session-never words sizes left g around session Fault is servable refusing cause = refusing
 session-never words sizes left g around session Memory is servable refusing cause = refusing
 session-never words sizes left g around session Refused is servable refusing cause = cause

@@ -1,15 +1,16 @@
--- What is gathered and given of a text after several parts of it.
-use Rattle.std.proofs.Common.{◌≡◌, ℕ, zero, suc, ◌+◌, ◌<◌, List, [], ◌∷◌, ◌++◌, length, get_or, take, drop, ◌≤◌, refl, ap, sym, ◌∙◌, subst, append_assoc, length-append, inl, inr, arith}
+-- What is gathered and given of a text: of replies, of runs, and of its last bytes.
+use Rattle.std.proofs.Common.{◌≡◌, ℕ, ◌+◌, ◌<◌, List, [], ◌∷◌, ◌++◌, length, get_or, take, drop, ◌≤◌, ap, ap₂, sym, ◌∙◌, subst, append_assoc, length-append, inl, inr, arith}
 use Rattle.std.specs.Prelude.{Option, Some, Result, Ok, Err, codes}
 use Rattle.std.proofs.Math.Seq.{take-append-add}
-use Rattle.std.proofs.lemmas.List.{take-append-le, take_more, drop_more, drop_all, append-nil, flat_map_more}
-use Rattle.era_top.specs.declared.part.Part.{Part}
+use Rattle.std.proofs.lemmas.List.{take-append-le, drop_more, drop_all, append-nil}
+use Rattle.era_model.specs.declared.command.Command.{Command}
 use Rattle.era_top.specs.declared.outcome.Outcome.{Outcome}
-use Rattle.era_top.specs.Parts.{part_text, parts_text}
-use Rattle.era_top.specs.Outcomes.{event_count, outcome_line, outcomes_text}
+use Rattle.era_top.specs.Outcomes.{answers_text, event_count, outcome_line}
 use Rattle.era_base.specs.Streams.{GivesFront}
 use Rattle.era_line.specs.declared.text_buffer.TextBuffer.{TextBuffer}
-use Rattle.era_line.specs.TextBuffer.{Gathers, IsEmpty, Adds}
+use Rattle.era_line.specs.TextBuffer.{IsEmpty, Adds}
+use Rattle.era_line.proofs.Gathering.{front-longer}
+use Rattle.era_line.proofs.PartSteps.{HasAdded, HasCut, added-then}
 use Rattle.era_top.specs.declared.status.Status.{Status}
 use Rattle.era_top.specs.Gathered.{PrintsBehind}
 use Rattle.era_top.specs.Sessions.{Prints}
@@ -25,57 +26,20 @@ gives_front-within before done piece rest after front = record {
       ∙ ap (λ bytes. done ++ bytes) (take-append-le front.count piece rest front.enough))));
 }
 
--- the parts before an index, the part there, and the rest
-pub parts_text-split : (parts : List Part) (i : ℕ) (d : Part) → i < length parts → parts_text parts ≡ parts_text (take i parts) ++ (part_text (get_or parts i d) ++ parts_text (drop (suc i) parts))
-parts_text-split [] i d h = absurd (omega arith)
-parts_text-split (p ∷ ps) zero d h = refl
-parts_text-split (p ∷ ps) (suc i) d h =
-    ap (λ bytes. part_text p ++ bytes) (parts_text-split ps i d (omega arith))
-    ∙ sym (append_assoc (part_text p) (parts_text (take i ps)) (part_text (get_or ps i d) ++ parts_text (drop (suc i) ps)))
-
--- one part more
-pub parts_text-more : (parts : List Part) (i : ℕ) (d : Part) → i < length parts → parts_text (take (i + 1) parts) ≡ parts_text (take i parts) ++ part_text (get_or parts i d)
-parts_text-more parts i d h = ap parts_text (take_more parts i d h) ∙ sym (flat_map_more part_text [] (take i parts) (get_or parts i d))
-
 -- the replies from an index on: the one there, and the rest
-pub outcomes_text-next : (outcomes : List Outcome) (i line place : ℕ) (outcome : Outcome) → i < length outcomes → outcome ≡ get_or outcomes i outcome
-    → outcomes_text line place (drop i outcomes) ≡ outcome_line line place outcome ++ outcomes_text (line + 1) (place + event_count outcome) (drop (i + 1) outcomes)
-outcomes_text-next outcomes i line place outcome h is =
-    ap (outcomes_text line place) (drop_more outcomes i outcome h ∙ ap (λ (o : Outcome). o ∷ drop (i + 1) outcomes) (sym is))
-
--- a front of a text is one of a longer text
-pub gives_front-longer : (before text more : List ℕ) (after : Option (List ℕ)) → GivesFront before text after → GivesFront before (text ++ more) after
-gives_front-longer before text more after front =
-    gives_front-within before [] text more after (subst (λ bytes. GivesFront bytes text after) (sym (append-nil before)) front)
-
--- what was gathered of a text has grown by these bytes
-abbrev pub HasAdded : Option (List ℕ) → TextBuffer → Option (List ℕ) → TextBuffer → List ℕ → Type 0
-HasAdded given buffer given' buffer' bytes =
-    (before text : List ℕ) → Gathers before text given buffer → Gathers before (text ++ bytes) given' buffer'
-
--- of what was gathered of a text and of these bytes a front was given
-abbrev pub HasCut : Option (List ℕ) → TextBuffer → Option (List ℕ) → List ℕ → Type 0
-HasCut given buffer given' bytes =
-    (before text : List ℕ) → Gathers before text given buffer → GivesFront before (text ++ bytes) given'
-
--- bytes and more bytes
-pub added-then : (given given' given'' : Option (List ℕ)) (buffer buffer' buffer'' : TextBuffer) (first rest : List ℕ)
-    → HasAdded given buffer given' buffer' first → HasAdded given' buffer' given'' buffer'' rest → HasAdded given buffer given'' buffer'' (first ++ rest)
-added-then given given' given'' buffer buffer' buffer'' first rest one more = λ before text is.
-    subst (λ all. Gathers before all given'' buffer'') (append_assoc text first rest) (more before (text ++ first) (one before text is))
-
--- bytes, and a piece of which a front was given
-pub cut-then : (given given' given'' : Option (List ℕ)) (buffer buffer' : TextBuffer) (first piece rest : List ℕ)
-    → HasAdded given buffer given' buffer' first → HasCut given' buffer' given'' piece → HasCut given buffer given'' (first ++ (piece ++ rest))
-cut-then given given' given'' buffer buffer' first piece rest one cut = λ before text is.
-    subst (λ all. GivesFront before all given'')
-    (append_assoc (text ++ first) piece rest ∙ append_assoc text first (piece ++ rest))
-    (gives_front-longer before ((text ++ first) ++ piece) rest given'' (cut before (text ++ first) (one before text is)))
+pub answers_text-next : (commands : List Command) (outcomes : List Outcome) (i place : ℕ) (command : Command) (outcome : Outcome) → i < length outcomes → i < length commands
+    → outcome ≡ get_or outcomes i outcome → command ≡ get_or commands i command
+    → answers_text place (drop i commands) (drop i outcomes)
+    ≡ outcome_line command.line place outcome ++ answers_text (place + event_count outcome) (drop (i + 1) commands) (drop (i + 1) outcomes)
+answers_text-next commands outcomes i place command outcome h k is at =
+    ap₂ (answers_text place)
+    (drop_more commands i command k ∙ ap (λ (c : Command). c ∷ drop (i + 1) commands) (sym at))
+    (drop_more outcomes i outcome h ∙ ap (λ (o : Outcome). o ∷ drop (i + 1) outcomes) (sym is))
 
 -- a text whose first part was cut
 pub cut-first : (given given' : Option (List ℕ)) (buffer : TextBuffer) (first rest : List ℕ) → HasCut given buffer given' first → HasCut given buffer given' (first ++ rest)
 cut-first given given' buffer first rest cut = λ before text is.
-    subst (λ all. GivesFront before all given') (append_assoc text first rest) (gives_front-longer before (text ++ first) rest given' (cut before text is))
+    subst (λ all. GivesFront before all given') (append_assoc text first rest) (front-longer before (text ++ first) rest given' (cut before text is))
 
 -- a text behind another one
 pub adds-then : {T E : Type 0} (given given' given'' : Option (List ℕ)) (buffer buffer' buffer'' : TextBuffer) (first rest : List ℕ) (result : Result T E)
@@ -101,32 +65,33 @@ prints-added given given' given'' buffer buffer' first rest ended result empty a
 ]
 
 -- replies of which some were added, and with those that are left they are all
-abbrev pub StandBefore : List Outcome → ℕ → ℕ → ℕ → (List ℕ → Type 0) → Type 0
-StandBefore outcomes i line place IsAdded =
-    (done : List ℕ) × (outcomes_text 1 0 outcomes ≡ done ++ outcomes_text line place (drop i outcomes)) × IsAdded done
+abbrev pub StandBefore : ℕ → List Command → List Outcome → ℕ → ℕ → (List ℕ → Type 0) → Type 0
+StandBefore start commands outcomes i place IsAdded =
+    (done : List ℕ) × (answers_text start commands outcomes ≡ done ++ answers_text place (drop i commands) (drop i outcomes)) × IsAdded done
 
 -- one reply more was added
-pub stand_before-next : (outcomes : List Outcome) (i line place count : ℕ) (outcome : Outcome) (first old new : Option (List ℕ)) (first' old' new' : TextBuffer)
-    → i < length outcomes → outcome ≡ get_or outcomes i outcome → StandBefore outcomes i line place (HasAdded first first' old old')
-    → HasAdded old old' new new' (outcome_line line place outcome)
+pub stand_before-next : (start : ℕ) (commands : List Command) (outcomes : List Outcome) (i place count : ℕ) (command : Command) (outcome : Outcome) (first old new : Option (List ℕ)) (first' old' new' : TextBuffer)
+    → i < length outcomes → i < length commands → outcome ≡ get_or outcomes i outcome → command ≡ get_or commands i command
+    → StandBefore start commands outcomes i place (HasAdded first first' old old')
+    → HasAdded old old' new new' (outcome_line command.line place outcome)
     → count ≡ event_count outcome
-    → StandBefore outcomes (i + 1) (line + 1) (place + count) (HasAdded first first' new new')
-stand_before-next outcomes i line place count outcome first old new first' old' new' here is stand adds counted =
-    let reply = outcome_line line place outcome in (
+    → StandBefore start commands outcomes (i + 1) (place + count) (HasAdded first first' new new')
+stand_before-next start commands outcomes i place count command outcome first old new first' old' new' here there is at stand adds counted =
+    let reply = outcome_line command.line place outcome in (
       stand.0 ++ reply,
       stand.1
-          ∙ ap (λ bytes. stand.0 ++ bytes) (outcomes_text-next outcomes i line place outcome here is)
+          ∙ ap (λ bytes. stand.0 ++ bytes) (answers_text-next commands outcomes i place command outcome here there is at)
           ∙ sym (append_assoc stand.0 reply _)
-          ∙ ap (λ n. (stand.0 ++ reply) ++ outcomes_text (line + 1) (place + n) (drop (i + 1) outcomes)) (sym counted),
+          ∙ ap (λ n. (stand.0 ++ reply) ++ answers_text (place + n) (drop (i + 1) commands) (drop (i + 1) outcomes)) (sym counted),
       added-then first old new first' old' new' stand.0 reply stand.2 adds,
     )
 
 -- all replies were added once none is left
-pub stand_before-end : (outcomes : List Outcome) (i line place : ℕ) (IsAdded : List ℕ → Type 0)
-    → length outcomes ≤ i → StandBefore outcomes i line place IsAdded → IsAdded (outcomes_text 1 0 outcomes)
-stand_before-end outcomes i line place IsAdded past stand =
+pub stand_before-end : (start : ℕ) (commands : List Command) (outcomes : List Outcome) (i place : ℕ) (IsAdded : List ℕ → Type 0)
+    → length outcomes ≤ i → StandBefore start commands outcomes i place IsAdded → IsAdded (answers_text start commands outcomes)
+stand_before-end start commands outcomes i place IsAdded past stand =
     subst IsAdded
-    (sym (stand.1 ∙ ap (λ rest. stand.0 ++ outcomes_text line place rest) (drop_all i outcomes past) ∙ append-nil stand.0)) stand.2
+    (sym (stand.1 ∙ ap (λ rest. stand.0 ++ answers_text place (drop i commands) rest) (drop_all i outcomes past) ∙ append-nil stand.0)) stand.2
 
 -- runs of which some were added, and with those that are left they are all
 abbrev pub RunsStand : List (ℕ × ℕ) → ℕ → (List ℕ → Type 0) → Type 0

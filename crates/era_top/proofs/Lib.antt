@@ -7,6 +7,8 @@ pub mod MarkSteps
 pub mod StreamSteps
 pub mod WriteMarks
 pub mod WriteSteps
+pub mod Relined
+pub mod RoundRuns
 pub mod RunLaws
 pub mod RunOrder
 pub mod BlockWrites
@@ -14,8 +16,13 @@ pub mod RunLoop
 pub mod RunSteps
 pub mod RequestSteps
 pub mod TaskSteps
+pub mod RunBehind
 pub mod SessionTexts
 pub mod SessionSteps
+pub mod Numbered
+pub mod SoFar
+pub mod SessionEnds
+pub mod RoundEnds
 pub mod Causes
 pub mod LastLoan
 pub mod RefusalTexts

@@ -32,9 +32,10 @@ use Rattle.era_top.specs.declared.outcome.Outcome.{Outcome}
 use Rattle.era_top.specs.declared.outcome.Outcome.TheVariants.{Moved, Listed, NoMemory}
 use Rattle.era_top.specs.Outcomes.{era_after, era_after_all, event_count, is_cut_outcome, outcome_events}
 use Rattle.era_top.specs.Runs.{command_of, commands_from, lane_zero, subject_of, FitsTask, FollowJournal, MarksWritten}
+use Rattle.era_top.specs.Steps.{Running}
 use Rattle.era_top.proofs.Journals.{other_number_back, at_opening-known, own-event, other-event, answered-kept, answered-push, drawn-more, drawn-last, era_after_all-push}
 use Rattle.era_top.proofs.MarkSteps.{blocks-same, follow-roll}
-use Rattle.era_top.proofs.RunLoop.{Running, some_cut-push}
+use Rattle.era_top.proofs.RunLoop.{some_cut-push}
 use Rattle.era_top.proofs.StreamSteps.{era_behind-next, era_behind-same, lists-push, stream-quiet, written-none}
 use Rattle.era_top.proofs.WriteMarks.{fresh-after}
 use Rattle.era_top.proofs.WriteSteps.{commands-more}

@@ -8,7 +8,8 @@ use Rattle.era_model.specs.declared.history.Happening.{Happening}
 use Rattle.era_model.specs.declared.reply.Answer.TheVariants.{Fault}
 use Rattle.era_model.specs.declared.reply.Device.TheVariants.{Data}
 use Rattle.era_model.specs.CommandEvents.{AreCheckpointEvents, AreWriteEvents, IsOutcome, IsTriedWrite}
-use Rattle.era_model.specs.Commands.{answer_of}
+use Rattle.era_model.specs.declared.command.Command.{Command}
+use Rattle.era_model.specs.Commands.{answer_of, events_of}
 use Rattle.era_model.specs.History.{at_opening}
 use Rattle.era_model.specs.Journal.{session_opening}
 use Rattle.era_model.specs.SessionRun.{AreListEvents, AreTaskEvents, HaveTheirEvents, place_now, without_places}
@@ -18,8 +19,8 @@ use Rattle.era_model.specs.declared.command.Task.{Task}
 use Rattle.era_model.specs.declared.command.Task.TheVariants.{Write as WriteTask, Ask}
 use Rattle.era_top.specs.declared.outcome.Outcome.{Outcome}
 use Rattle.era_top.specs.declared.outcome.Outcome.TheVariants.{OutOfRange, Done, Cut, Moved, LastEra, Listed, NoMemory}
-use Rattle.era_top.specs.Outcomes.{EventSubject, era_after, event_count, ended_events, is_issued, lacks_memory, outcome_events, outcome_line, outcomes_text}
-use Rattle.era_top.specs.Runs.{lane_zero, command_of, commands_from, place_of_write, some_lack, subject_of, subject_of_write, FitsList, FitsPlace, FitsTask, AreAnswered, Write}
+use Rattle.era_top.specs.Outcomes.{EventSubject, era_after, event_count, ended_events, is_issued, lacks_memory, outcome_events, outcome_line, answers_text}
+use Rattle.era_top.specs.Runs.{lane_zero, commands_from, place_of_write, some_lack, subject_of, tasks_of, AreNumbered, subject_of_write, FitsList, FitsPlace, FitsTask, AreAnswered, Write}
 use Rattle.era_top.specs.Answered.{says_memory, some_says_memory, EndInFault}
 use Rattle.era_top.proofs.Journals.{at_opening-known}
 
@@ -36,15 +37,17 @@ reply-any subject line start (Listed blocks) = refl
 reply-any subject line start NoMemory = refl
 
 -- the replies to commands that have the events of their outcomes are those of the outcomes
-pub answered-replies : (g : Geometry) (h : List Happening) (number era start : ℕ) (tasks : List Task) (outcomes : List Outcome) (next : ℕ) → AreAnswered g h number era start tasks outcomes next → replies_text h (commands_from number tasks) ≡ outcomes_text (number + 1) start outcomes
-answered-replies g h number era start [] [] next answered = refl
-answered-replies g h number era start [] (outcome ∷ outcomes) next answered = absurd answered
-answered-replies g h number era start (task ∷ tasks) [] next answered = absurd answered
-answered-replies g h number era start (task ∷ tasks) (outcome ∷ outcomes) next answered =
+pub answered-replies : (g : Geometry) (h : List Happening) (number era start : ℕ) (commands : List Command) (outcomes : List Outcome) (next : ℕ) → AreNumbered number commands
+    → AreAnswered g h number era start (tasks_of commands) outcomes next → replies_text h commands ≡ answers_text start commands outcomes
+answered-replies g h number era start [] [] next numbered answered = refl
+answered-replies g h number era start [] (outcome ∷ outcomes) next numbered answered = absurd answered
+answered-replies g h number era start (command ∷ commands) [] next numbered answered = absurd answered
+answered-replies g h number era start (command ∷ commands) (outcome ∷ outcomes) next numbered answered =
     ap₂ (λ first rest. first ++ rest)
-    (ap (λ events. reply_line (number + 1) events) answered.1
-    ∙ reply-any (subject_of g number era task) (number + 1) start outcome)
-    (answered-replies g h (number + 1) (era_after era outcome) (start + event_count outcome) tasks outcomes next answered.2)
+    (ap (λ id. reply_line command.line (events_of h id)) numbered.0
+    ∙ ap (λ events. reply_line command.line events) answered.1
+    ∙ reply-any (subject_of g number era command.task) command.line start outcome)
+    (answered-replies g h (number + 1) (era_after era outcome) (start + event_count outcome) commands outcomes next numbered.1 answered.2)
 
 -- the answer to a command says that memory was refused exactly where its outcome does
 answer-lacks : (subject : EventSubject) (start : ℕ) (outcome : Outcome) → says_memory (answer_of (outcome_events subject start outcome)) ≡ lacks_memory outcome
@@ -59,33 +62,36 @@ answer-lacks subject start (Listed blocks) = refl
 answer-lacks subject start NoMemory = refl
 
 -- memory was refused for a command exactly where an outcome says so
-pub answered-lack : (g : Geometry) (h : List Happening) (number era start : ℕ) (tasks : List Task) (outcomes : List Outcome) (next : ℕ) → AreAnswered g h number era start tasks outcomes next → some_says_memory h (commands_from number tasks) ≡ some_lack outcomes
-answered-lack g h number era start [] [] next answered = refl
-answered-lack g h number era start [] (outcome ∷ outcomes) next answered = absurd answered
-answered-lack g h number era start (task ∷ tasks) [] next answered = absurd answered
-answered-lack g h number era start (task ∷ tasks) (outcome ∷ outcomes) next answered =
+pub answered-lack : (g : Geometry) (h : List Happening) (number era start : ℕ) (commands : List Command) (outcomes : List Outcome) (next : ℕ) → AreNumbered number commands
+    → AreAnswered g h number era start (tasks_of commands) outcomes next → some_says_memory h commands ≡ some_lack outcomes
+answered-lack g h number era start [] [] next numbered answered = refl
+answered-lack g h number era start [] (outcome ∷ outcomes) next numbered answered = absurd answered
+answered-lack g h number era start (command ∷ commands) [] next numbered answered = absurd answered
+answered-lack g h number era start (command ∷ commands) (outcome ∷ outcomes) next numbered answered =
     ap₂ (λ first rest. first || rest)
-    (ap (λ events. says_memory (answer_of events)) answered.1 ∙ answer-lacks (subject_of g number era task) start outcome)
-    (answered-lack g h (number + 1) (era_after era outcome) (start + event_count outcome) tasks outcomes next answered.2)
+    (ap (λ id. says_memory (answer_of (events_of h id))) numbered.0
+    ∙ ap (λ events. says_memory (answer_of events)) answered.1 ∙ answer-lacks (subject_of g number era command.task) start outcome)
+    (answered-lack g h (number + 1) (era_after era outcome) (start + event_count outcome) commands outcomes next numbered.1 answered.2)
 
 answer-cut : (subject : EventSubject) (start : ℕ) (marks : Bool) (count : ℕ) → answer_of (outcome_events subject start (Cut marks count)) ≡ Fault Data count
 answer-cut subject start true count = refl
 answer-cut subject start false count = refl
 
 -- where the last outcome is a cut, the last command was answered with its fault
-pub answered-fault : (g : Geometry) (h : List Happening) (number era start : ℕ) (tasks : List Task) (before : List Outcome) (marks : Bool) (count next : ℕ) → AreAnswered g h number era start tasks (before ++ Cut marks count ∷ []) next → EndInFault h (commands_from number tasks) count
-answered-fault g h number era start [] [] marks count next answered = absurd answered
-answered-fault g h number era start [] (outcome ∷ before) marks count next answered = absurd answered
-answered-fault g h number era start (task ∷ []) [] marks count next answered = record {
+pub answered-fault : (g : Geometry) (h : List Happening) (number era start : ℕ) (commands : List Command) (before : List Outcome) (marks : Bool) (count next : ℕ) → AreNumbered number commands
+    → AreAnswered g h number era start (tasks_of commands) (before ++ Cut marks count ∷ []) next → EndInFault h commands count
+answered-fault g h number era start [] [] marks count next numbered answered = absurd answered
+answered-fault g h number era start [] (outcome ∷ before) marks count next numbered answered = absurd answered
+answered-fault g h number era start (command ∷ []) [] marks count next numbered answered = record {
   before = [];
-  last = command_of number task;
+  last = command;
   among = refl;
-  answer = ap answer_of answered.1 ∙ answer-cut (subject_of g number era task) start marks count;
+  answer = ap (λ id. answer_of (events_of h id)) numbered.0 ∙ ap answer_of answered.1 ∙ answer-cut (subject_of g number era command.task) start marks count;
 }
-answered-fault g h number era start (task ∷ next_task ∷ tasks) [] marks count next answered = absurd answered.2
-answered-fault g h number era start (task ∷ tasks) (outcome ∷ before) marks count next answered =
-    let rest = answered-fault g h (number + 1) (era_after era outcome) (start + event_count outcome) tasks before marks count next answered.2 in
-    record { before = command_of number task ∷ rest.before; last = rest.last; among = ap (λ commands. command_of number task ∷ commands) rest.among; answer = rest.answer }
+answered-fault g h number era start (command ∷ second ∷ commands) [] marks count next numbered answered = absurd answered.2
+answered-fault g h number era start (command ∷ commands) (outcome ∷ before) marks count next numbered answered =
+    let rest = answered-fault g h (number + 1) (era_after era outcome) (start + event_count outcome) commands before marks count next numbered.1 answered.2 in
+    record { before = command ∷ rest.before; last = rest.last; among = ap (λ all. command ∷ all) rest.among; answer = rest.answer }
 
 issued-without_mark : (h : List Happening) (subject : EventSubject) (start : ℕ) (ended : Event) → IsOutcome subject.id ended → IsTriedWrite h subject.id subject.block subject.first subject.bytes (without_places (ended_events false subject start ended))
 issued-without_mark h subject start ended ends = record {

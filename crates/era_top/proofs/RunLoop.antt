@@ -1,15 +1,15 @@
 -- A run of commands: where none was run yet, and a write out of range behind the others.
-use Rattle.std.proofs.Common.{◌≡◌, ℕ, ◌+◌, ◌<◌, ◌||◌, Bool, true, false, List, [], ◌∷◌, ◌++◌, length, None, refl, ap, sym, ◌∙◌, subst, arith}
+use Rattle.std.proofs.Common.{◌≡◌, ℕ, ◌+◌, ◌||◌, Bool, true, false, List, [], ◌∷◌, ◌++◌, length, None, refl, ap, sym, ◌∙◌, subst, arith}
 use Rattle.std.specs.Prelude.{option_map}
 use Rattle.std.proofs.lemmas.List.{length_push}
 use Rattle.std.proofs.lemmas.List.Folds.{list_any-append}
 use Rattle.era_base.specs.declared.geometry.Geometry.{Geometry}
-use Rattle.era_base.specs.CrashModel.{State, IsClean}
+use Rattle.era_base.specs.CrashModel.{State}
 use Rattle.era_base.specs.Geometry.{blocks_of}
 use Rattle.era_model.specs.declared.history.Happening.{Happening}
 use Rattle.era_model.specs.declared.history.Happening.TheVariants.{Opened}
 use Rattle.era_model.specs.Commands.{events_of}
-use Rattle.era_model.specs.History.{next_place, content}
+use Rattle.era_model.specs.History.{next_place}
 use Rattle.era_model.specs.Journal.{session_opening}
 use Rattle.era_model.specs.Marks.{BlockMarks, no_marks}
 use Rattle.era_model.specs.StreamLists.{block_written, IsWrittenSince, ListsNameWritten}
@@ -18,22 +18,13 @@ use Rattle.era_model.specs.declared.command.Task.{Task}
 use Rattle.era_top.specs.declared.outcome.Outcome.{Outcome}
 use Rattle.era_top.specs.declared.outcome.Outcome.TheVariants.{OutOfRange}
 use Rattle.era_top.specs.Outcomes.{era_after_all, is_cut_outcome}
-use Rattle.era_top.specs.Runs.{command_of, commands_from, lane_zero, place_of_write, some_cut, task_of_write, FollowJournal, IsJournalOf, IsBetween, MarksWritten, Write}
+use Rattle.era_top.specs.Runs.{command_of, commands_from, lane_zero, place_of_write, some_cut, task_of_write, FollowJournal, MarksWritten, Write}
+use Rattle.era_top.specs.Steps.{Running}
 use Rattle.era_top.proofs.Journals.{answered-push, drawn-more, era_after_all-push}
 use Rattle.era_top.proofs.RunOrder.{no_marks-valid, opening-legal}
 use Rattle.era_top.proofs.MarkSteps.{no_marks-last, none-has}
 use Rattle.era_top.proofs.StreamSteps.{era_behind-same, lists-push, never-empty, stream-quiet, written-none}
 use Rattle.era_top.proofs.WriteSteps.{commands-more}
-
--- The commands so far, none of which was a write that was cut.
-pub record Running (g : Geometry) (contents : List ℕ) (tasks : List Task) (outcomes : List Outcome) (marks : BlockMarks) (tells : Bool) (faults faults' : ℕ) (disk disk' : State) (h : List Happening) : Type 0 where
-  pub journal : IsJournalOf g contents tasks outcomes h
-  pub between : IsBetween g tasks marks (era_after_all 1 outcomes) h
-  pub count : length outcomes ≡ length tasks
-  pub no_cut : some_cut outcomes ≡ false
-  pub kept : faults' ≡ faults
-  pub reads : tells ≡ true → contents ≡ disk.seen → (block : ℕ) → block < blocks_of g.sectors g.block_sectors → content h block ≡ block_bytes g.block_sectors disk'.seen block
-  pub clean : tells ≡ true → (block : ℕ) → IsWrittenSince g (commands_from 0 tasks) 1 block → IsClean disk'
 
 pub some_cut-push : (outcomes : List Outcome) (outcome : Outcome) → some_cut outcomes ≡ false → some_cut (outcomes ++ outcome ∷ []) ≡ is_cut_outcome outcome
 some_cut-push outcomes outcome none = list_any-append is_cut_outcome outcomes (outcome ∷ []) ∙ rw none (or-right (is_cut_outcome outcome))

@@ -1,5 +1,5 @@
 -- The order of a run's commands, and that its journal is a run; the opening of a first session is legal.
-use Rattle.std.proofs.Common.{◌≡◌, ℕ, ◌+◌, ◌<◌, ◌≤◌, Bool, true, false, List, [], ◌∷◌, ◌++◌, replicate, slice_index_or, All, refl, sym, ◌∙◌, subst, append-nil, suc, zero, arith}
+use Rattle.std.proofs.Common.{ℕ, ◌+◌, ◌<◌, ◌≤◌, Bool, true, false, List, [], ◌∷◌, replicate, slice_index_or, All, refl, sym, subst, suc, zero, arith}
 use Rattle.std.proofs.lemmas.List.{length-replicate}
 use Rattle.std.proofs.lemmas.List.Elements.{All-nil, All-cons, All-same}
 use Rattle.era_base.specs.declared.geometry.Geometry.{Geometry}
@@ -8,20 +8,22 @@ use Rattle.era_model.specs.declared.event.Event.TheVariants.{Tried, Mark, Go}
 use Rattle.era_model.specs.declared.history.Happening.{Happening}
 use Rattle.era_model.specs.declared.history.Happening.TheVariants.{Opened}
 use Rattle.era_model.specs.declared.command.Command.{Command}
-use Rattle.era_model.specs.Commands.{events_of, one_round}
+use Rattle.era_model.specs.Commands.{events_of}
 use Rattle.era_model.specs.Journal.{session_opening}
 use Rattle.era_model.specs.Legal.{IsLegal}
 use Rattle.era_model.specs.Marks.{no_marks}
 use Rattle.era_model.specs.SessionRun.{AreAllDrawnBy, HaveTheirEvents, AllBefore, IsBefore, StandsBefore, KeepsLanes, IsRun}
-use Rattle.era_model.specs.Transcript.{replies_text}
 use Rattle.era_model.specs.Validity.{AreValidMarks}
 use Rattle.era_model.specs.declared.command.Task.{Task}
 use Rattle.era_top.specs.declared.outcome.Outcome.{Outcome}
 use Rattle.era_top.specs.declared.outcome.Outcome.TheVariants.{OutOfRange, Done, Cut, Moved, LastEra, Listed, NoMemory}
-use Rattle.era_top.specs.Outcomes.{EventSubject, era_after, event_count, ended_events, outcome_events, outcomes_text}
-use Rattle.era_top.specs.Runs.{lane_zero, command_of, commands_from, subject_of, AreAnswered, IsJournalOf}
+use Rattle.era_top.specs.Outcomes.{EventSubject, era_after, event_count, ended_events, outcome_events}
+use Rattle.era_top.specs.Runs.{lane_zero, command_of, commands_from, subject_of, tasks_of, AreAnswered, AreNumbered, IsJournalOf}
+use Rattle.era_top.specs.Sessions.{joined, rounds_of}
 use Rattle.era_model.specs.History.{next_place}
-use Rattle.era_top.proofs.RunLaws.{answered-replies, answered-events}
+use Rattle.era_top.proofs.Relined.{drawn-relined, events-relined, lanes-relined, numbered-relined}
+use Rattle.era_top.proofs.RoundRuns.{commands-joined, numbered-rounds}
+use Rattle.era_top.proofs.RunLaws.{answered-events}
 
 -- Each event has a place from the first bound on and below the second one.
 abbrev Between : ℕ → ℕ → List (ℕ × Event) → Type 0
@@ -99,21 +101,22 @@ answered-lanes g h number era start (task ∷ tasks) (outcome ∷ outcomes) next
   answered-lanes g h (number + 1) (era_after era outcome) (start + event_count outcome) tasks outcomes next answered.2,
 )
 
--- the journal of commands that were run is a run of them, all of one round
-pub journal-run : (g : Geometry) (contents : List ℕ) (tasks : List Task) (outcomes : List Outcome) (h : List Happening) → IsJournalOf g contents tasks outcomes h → IsRun h (one_round (commands_from 0 tasks))
-journal-run g contents tasks outcomes h journal =
-    let commands = commands_from 0 tasks in
-    let one : commands ++ [] ++ [] ≡ commands = append-nil (commands ++ []) ∙ append-nil commands in
+-- the journal of commands that were run in rounds is a run of these rounds
+pub journal-run : (g : Geometry) (contents : List ℕ) (rounds : List (List Command)) (outcomes : List Outcome) (h : List Happening) → AreNumbered 0 (joined rounds)
+    → IsJournalOf g contents (tasks_of (joined rounds)) outcomes h → IsRun h (rounds_of rounds)
+journal-run g contents rounds outcomes h numbered journal =
+    let commands = joined rounds in
+    let tasks = tasks_of commands in
+    let same = numbered-relined 0 commands numbered in
+    let all = sym (commands-joined rounds) in
+    let lanes = lanes-relined h (commands_from 0 tasks) commands same (answered-lanes g h 0 1 0 tasks outcomes (next_place h) journal.answered) in
     record {
-      drawn = subst (λ commands. AreAllDrawnBy commands h) (sym one) journal.drawn;
-      events = subst (λ commands. HaveTheirEvents h commands) (sym one) (answered-events g contents h 0 1 0 tasks outcomes (next_place h) journal.opened journal.answered);
-      lanes = subst (λ commands. KeepsLanes h commands) (sym one) (answered-lanes g h 0 1 0 tasks outcomes (next_place h) journal.answered);
-      borders = (tt, tt);
+      drawn = subst (λ commands. AreAllDrawnBy commands h) all (drawn-relined (commands_from 0 tasks) commands h same journal.drawn);
+      events = subst (λ commands. HaveTheirEvents h commands) all
+          (events-relined h (commands_from 0 tasks) commands same (answered-events g contents h 0 1 0 tasks outcomes (next_place h) journal.opened journal.answered));
+      lanes = subst (λ commands. KeepsLanes h commands) all lanes;
+      borders = numbered-rounds h rounds numbered lanes;
     }
-
--- the replies of the journal of commands that were run are those of their outcomes
-pub journal-replies : (g : Geometry) (contents : List ℕ) (tasks : List Task) (outcomes : List Outcome) (h : List Happening) → IsJournalOf g contents tasks outcomes h → replies_text h (commands_from 0 tasks) ≡ outcomes_text 1 0 outcomes
-journal-replies g contents tasks outcomes h journal = answered-replies g h 0 1 0 tasks outcomes (next_place h) journal.answered
 
 zero-entries : (blocks block : ℕ) → slice_index_or (replicate blocks 0) block 0 ≤ 0
 zero-entries zero block = omega arith

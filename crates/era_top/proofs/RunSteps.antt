@@ -16,13 +16,13 @@ use Rattle.era_top.specs.declared.outcome.Outcome.{Outcome}
 use Rattle.era_top.specs.declared.outcome.Outcome.TheVariants.{Done, Cut}
 use Rattle.era_top.specs.Outcomes.{era_after_all}
 use Rattle.era_top.specs.Runs.{lane_zero, some_cut, task_of_write, IsJournalOf, IsBetween, Write}
-use Rattle.era_top.specs.Steps.{Marks, HoldsWrite, IsTorn, TellsFault, HaveRun}
+use Rattle.era_top.specs.Steps.{Marks, HoldsWrite, IsTorn, TellsFault, HaveRun, Running}
 use Rattle.era_top.proofs.Journals.{same_command, era_after_all-push}
 use Rattle.era_top.proofs.WriteMarks.{Issue, IsReady, ready-marked, ready-unmarked}
 use Rattle.era_top.proofs.WriteSteps.{IsIssued, ended_with, done-journal, done-between, done-content, cut-journal, cut-counts}
 use Rattle.era_top.proofs.BlockWrites.{stored-block, torn-block}
 use Rattle.era_top.proofs.Splices.{part-length}
-use Rattle.era_top.proofs.RunLoop.{Running, some_cut-push}
+use Rattle.era_top.proofs.RunLoop.{some_cut-push}
 
 or-left-false : (a b : Bool) → (a || b) ≡ false → a ≡ false
 or-left-false false b h = refl

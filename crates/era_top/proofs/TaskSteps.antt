@@ -7,7 +7,7 @@ use Rattle.era_model.specs.declared.history.Happening.{Happening}
 use Rattle.era_model.specs.Marks.{BlockMarks}
 use Rattle.era_model.specs.StreamLists.{IsWrittenSince}
 use Rattle.era_model.specs.Writes.{block_bytes}
-use Rattle.era_plan.specs.Grammar.{IsServed}
+use Rattle.era_top.specs.Runs.{IsServedTask}
 use Rattle.era_model.specs.declared.command.Command.{Command}
 use Rattle.era_model.specs.declared.command.Request.{Request}
 use Rattle.era_model.specs.declared.command.Request.TheVariants.{Checkpoint, List as ListRequest}
@@ -17,9 +17,9 @@ use Rattle.era_top.specs.declared.outcome.Outcome.{Outcome}
 use Rattle.era_top.specs.declared.outcome.Outcome.TheVariants.{OutOfRange, Done, Cut, Moved, LastEra, Listed, NoMemory}
 use Rattle.era_top.specs.Outcomes.{era_after_all, is_cut_outcome}
 use Rattle.era_top.specs.Runs.{commands_from, task_of_write, tasks_of, IsJournalOf, IsBetween, Write}
-use Rattle.era_top.specs.Steps.{AnswersRequest, HaveRun, MovesEra, TaskWent, TellsBlocks, WriteWent}
+use Rattle.era_top.specs.Steps.{AnswersRequest, HaveRun, MovesEra, Running, TaskWent, TellsBlocks, WriteWent}
 use Rattle.era_top.proofs.RequestSteps.{running-lacked, running-listed, running-moved}
-use Rattle.era_top.proofs.RunLoop.{Running, running-range}
+use Rattle.era_top.proofs.RunLoop.{running-range}
 use Rattle.era_top.proofs.RunSteps.{running-cut, running-done}
 use Rattle.era_top.proofs.StreamSteps.{era_behind-few}
 use Rattle.era_top.proofs.TaskCommands.{length-commands_from}
@@ -83,7 +83,7 @@ write-on g contents tasks outcomes marks marks' tells faults faults' faults'' di
 
 -- a session of few commands isn't in the last era
 not-last : (g : Geometry) (contents : List ℕ) (tasks : List Task) (outcomes : List Outcome) (marks : BlockMarks) (tells : Bool) (faults faults' : ℕ) (disk disk' : State) (h : List Happening)
-    → Running g contents tasks outcomes marks tells faults faults' disk disk' h → length tasks ≤ 4096 → marks.era ≡ 4294967295 → ⊥
+    → Running g contents tasks outcomes marks tells faults faults' disk disk' h → length tasks ≤ 65536 → marks.era ≡ 4294967295 → ⊥
 not-last g contents tasks outcomes marks tells faults faults' disk disk' h run few last =
     let count = length-commands_from 0 tasks in
     let bound = era_behind-few (commands_from 0 tasks) in
@@ -93,7 +93,7 @@ not-last g contents tasks outcomes marks tells faults faults' disk disk' h run f
 
 -- a checkpoint behind the others
 checkpoint-on : (g : Geometry) (contents : List ℕ) (tasks : List Task) (outcomes : List Outcome) (marks marks' : BlockMarks) (tells : Bool) (faults faults' : ℕ) (disk disk' : State) (h : List Happening) (outcome : Outcome)
-    → Running g contents tasks outcomes marks tells faults faults' disk disk' h → length tasks ≤ 4096 → MovesEra marks marks' outcome
+    → Running g contents tasks outcomes marks tells faults faults' disk disk' h → length tasks ≤ 65536 → MovesEra marks marks' outcome
     → (h' : List Happening) × Running g contents (tasks ++ Ask Checkpoint ∷ []) (outcomes ++ outcome ∷ []) marks' tells faults faults' disk disk' h'
 checkpoint-on g contents tasks outcomes marks marks' tells faults faults' disk disk' h (Moved era) run few moved = (
   _,
@@ -124,7 +124,7 @@ list-on g contents tasks outcomes marks tells faults faults' disk disk' h since 
 
 -- a request behind the others
 request-on : (g : Geometry) (contents : List ℕ) (tasks : List Task) (outcomes : List Outcome) (marks marks' : BlockMarks) (tells : Bool) (faults faults' : ℕ) (disk disk' : State) (h : List Happening) (request : Request) (outcome : Outcome)
-    → Running g contents tasks outcomes marks tells faults faults' disk disk' h → length tasks ≤ 4096 → AnswersRequest marks marks' request outcome
+    → Running g contents tasks outcomes marks tells faults faults' disk disk' h → length tasks ≤ 65536 → AnswersRequest marks marks' request outcome
     → (h' : List Happening) × Running g contents (tasks ++ Ask request ∷ []) (outcomes ++ outcome ∷ []) marks' tells faults faults' disk disk' h'
 request-on g contents tasks outcomes marks marks' tells faults faults' disk disk' h Checkpoint outcome run few answers =
     checkpoint-on g contents tasks outcomes marks marks' tells faults faults' disk disk' h outcome run few answers
@@ -135,7 +135,7 @@ request-on g contents tasks outcomes marks marks' tells faults faults' disk disk
 
 -- a task that wasn't cut, behind the others
 pub went-on : (g : Geometry) (contents : List ℕ) (tasks : List Task) (outcomes : List Outcome) (marks marks' : BlockMarks) (tells : Bool) (faults faults' faults'' : ℕ) (disk disk' disk'' : State) (h : List Happening) (task : Task) (outcome : Outcome)
-    → Running g contents tasks outcomes marks tells faults faults' disk disk' h → length tasks ≤ 4096 → IsServed task → (tells ≡ true → length disk'.seen ≡ g.sectors * 512)
+    → Running g contents tasks outcomes marks tells faults faults' disk disk' h → length tasks ≤ 65536 → IsServedTask task → (tells ≡ true → length disk'.seen ≡ g.sectors * 512)
     → TaskWent g task tells marks marks' faults' faults'' disk' disk'' outcome → is_cut_outcome outcome ≡ false
     → (h' : List Happening) × Running g contents (tasks ++ task ∷ []) (outcomes ++ outcome ∷ []) marks' tells faults faults'' disk disk'' h'
 went-on g contents tasks outcomes marks marks' tells faults faults' faults'' disk disk' disk'' h (WriteTask sector bytes) outcome run few payload sized went none =
@@ -161,7 +161,7 @@ write-cut g contents all tasks outcomes marks marks' tells faults faults' faults
 write-cut g contents all tasks outcomes marks marks' tells faults faults' faults'' disk disk' disk'' h write NoMemory run whole front within went is = absurd (cc)
 
 -- a request is never cut
-request-uncut : (marks marks' : BlockMarks) (request : Request) (outcome : Outcome) → AnswersRequest marks marks' request outcome → is_cut_outcome outcome ≡ true → ⊥
+pub request-uncut : (marks marks' : BlockMarks) (request : Request) (outcome : Outcome) → AnswersRequest marks marks' request outcome → is_cut_outcome outcome ≡ true → ⊥
 request-uncut marks marks' Checkpoint (Cut first told) answers is = answers
 request-uncut marks marks' (ListRequest since false) (Cut first told) answers is = answers.1
 request-uncut marks marks' request (Cut first told) answers is = answers
@@ -174,7 +174,7 @@ request-uncut marks marks' request NoMemory answers is = absurd (cc)
 
 -- a task that was cut, behind the others
 pub went-cut : (g : Geometry) (contents : List ℕ) (all tasks : List Task) (outcomes : List Outcome) (marks marks' : BlockMarks) (tells : Bool) (faults faults' faults'' : ℕ) (disk disk' disk'' : State) (h : List Happening) (task : Task) (outcome : Outcome)
-    → Running g contents tasks outcomes marks tells faults faults' disk disk' h → IsServed task
+    → Running g contents tasks outcomes marks tells faults faults' disk disk' h → IsServedTask task
     → take (length tasks + 1) all ≡ tasks ++ task ∷ [] → length tasks < length all
     → TaskWent g task tells marks marks' faults' faults'' disk' disk'' outcome → is_cut_outcome outcome ≡ true
     → (h' : List Happening) × HaveRun g contents all (outcomes ++ outcome ∷ []) tells marks'.era faults faults'' disk disk'' h'

@@ -1,10 +1,11 @@
-pub mod Parts
 pub mod Outcomes
 pub mod Runs
 pub mod Steps
 pub mod Answered
 pub mod Gathered
 pub mod Sessions
+pub mod Endings
+pub mod Answering
 pub mod Rises
 pub mod Around
 pub mod Words

@@ -15,7 +15,7 @@ use Rattle.era_top.specs.Around.{DiskFacts, BayAround, StreamsAround}
 use Rattle.era_top.specs.Refusals.{refusal_status}
 use Rattle.era_top.specs.Reports.{IsCauseOf, IsOrigin, LeavesBay, around_session}
 use Rattle.era_top.specs.Rises.{HasRiseFor}
-use Rattle.era_top.specs.Sessions.{Goes}
+use Rattle.era_top.specs.Endings.{Goes}
 use Rattle.era_top.specs.Words.{IsServe}
 
 -- The origin of a table line was lent as it reads, and its loan is the last one.

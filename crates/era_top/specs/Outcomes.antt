@@ -1,6 +1,7 @@
 -- The events of one command, and the reply that they give, by how the command went.
 use Rattle.std.specs.Prelude.{ℕ, ◌+◌, sum_by, Bool, true, false, List, [], ◌∷◌, ◌++◌, if◌then◌else◌}
 use Rattle.era_base.specs.declared.ids.CmdId.{CmdId}
+use Rattle.era_model.specs.declared.command.Command.{Command}
 use Rattle.era_model.specs.declared.event.Event.{Event}
 use Rattle.era_model.specs.declared.event.Event.TheVariants.{Tried, Mark, Go, Done as DoneEvent, Cut as CutEvent, Roll, List as ListEvent, Refused}
 use Rattle.era_model.specs.declared.event.Kind.TheVariants.{Checkpoint as CheckpointKind, List as ListKind}
@@ -80,11 +81,12 @@ some_subject = record { id = record { lane = 0; number = 0 }; era = 0; block = 0
 abbrev pub outcome_line : ℕ → ℕ → Outcome → List ℕ
 outcome_line line place outcome = reply_line line (outcome_events some_subject place outcome)
 
--- The replies to commands, from the number of the first one's line and the place of the first event on.
-abbrev pub outcomes_text : ℕ → ℕ → List Outcome → List ℕ
-outcomes_text line place [] = []
-outcomes_text line place (outcome ∷ outcomes) =
-    outcome_line line place outcome ++ outcomes_text (line + 1) (place + event_count outcome) outcomes
+-- The replies to commands that went so, in order, the first of them with its events from a place on.
+abbrev pub answers_text : ℕ → List Command → List Outcome → List ℕ
+answers_text place commands [] = []
+answers_text place [] (outcome ∷ outcomes) = []
+answers_text place (command ∷ commands) (outcome ∷ outcomes) =
+    outcome_line command.line place outcome ++ answers_text (place + event_count outcome) commands outcomes
 
 -- How many events commands have together.
 abbrev pub total_events : List Outcome → ℕ

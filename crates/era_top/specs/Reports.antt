@@ -15,7 +15,8 @@ use Rattle.era_top.specs.declared.status.Status.TheVariants.{Done}
 use Rattle.era_top.specs.Around.{DiskFacts, BayAround, StreamsAround}
 use Rattle.era_top.specs.Refusals.{refusal_text, refusal_status}
 use Rattle.era_top.specs.Runs.{ReadsAsJournal}
-use Rattle.era_top.specs.Sessions.{Session, session_text, Around, IsSession, EndsBy, Prints}
+use Rattle.era_top.specs.Endings.{EndsBy}
+use Rattle.era_top.specs.Sessions.{Session, session_text, Around, IsSession, Prints}
 use Rattle.era_top.specs.Words.{IsServe, IsNeed, IsNotYet, GiveNumbers}
 use Rattle.era_words.specs.Words.{IsNoJob}
 

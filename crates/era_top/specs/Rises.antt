@@ -1,5 +1,5 @@
 -- Which counts of faults rose, by how a run ended.
-use Rattle.std.specs.Prelude.{◌≡◌, ℕ}
+use Rattle.std.specs.Prelude.{◌≡◌, ℕ, Option, Some, None}
 use Rattle.era_base.specs.Faults.{Rose}
 use Rattle.era_top.specs.declared.status.Status.{Status}
 use Rattle.era_top.specs.declared.status.Status.TheVariants.{Fault, Source, Sink}
@@ -15,3 +15,8 @@ HasRiseFor status source source' sink sink' disk disk' = Unit {0}
 pub record HasSinkCause (before now : ℕ) (result : Status) : Type 0 where
   pub rose : result ≡ Sink → Rose before now
   pub kept : (result ≡ Sink → ⊥) → now ≡ before
+
+-- The counts that rose at a round of a session: the sink's exactly where the session ended by its failure there, and the disk's where it ended by a fault; where the session goes on, none.
+abbrev pub HasAnswerCause : Option Status → ℕ → ℕ → ℕ → ℕ → Type 0
+HasAnswerCause None sink sink' disk disk' = (sink' ≡ sink) × (disk' ≡ disk)
+HasAnswerCause (Some status) sink sink' disk disk' = HasSinkCause sink sink' status × (status ≡ Fault → Rose disk disk') × (status ≡ Source → ⊥)

@@ -20,10 +20,10 @@ use Rattle.era_model.specs.SessionRun.{AreAllDrawnBy}
 use Rattle.era_model.specs.StreamLists.{era_behind, IsWrittenSince, ListsNameWritten}
 use Rattle.era_model.specs.Validity.{AreValidMarks}
 use Rattle.era_model.specs.Writes.{block_bytes}
+use Rattle.era_plan.specs.Commands.{IsPayload}
 use Rattle.era_model.specs.declared.command.Request.TheVariants.{Checkpoint, List as ListRequest}
 use Rattle.era_model.specs.declared.command.Task.{Task}
 use Rattle.era_model.specs.declared.command.Task.TheVariants.{Write as WriteTask, Ask}
-pub use Rattle.era_plan.specs.Grammar.{command_of}
 use Rattle.era_top.specs.declared.outcome.Outcome.{Outcome}
 use Rattle.era_top.specs.declared.outcome.Outcome.TheVariants.{OutOfRange, Moved, LastEra, Listed, NoMemory}
 use Rattle.era_top.specs.Outcomes.{EventSubject, era_after, era_after_all, event_count, is_cut_outcome, is_issued, lacks_memory, outcome_events}
@@ -31,6 +31,22 @@ use Rattle.era_top.specs.Outcomes.{EventSubject, era_after, era_after_all, event
 -- The command of lane 0 with the number.
 abbrev pub lane_zero : ℕ → CmdId
 lane_zero number = record { lane = 0; number = number }
+
+-- The command of lane 0 with this number, as it stands in a stream of commands alone: in the line behind as many.
+abbrev pub command_of : ℕ → Task → Command
+command_of number task = record { line = number + 1; id = lane_zero number; task = task }
+
+-- A task is served yet: a write of 1 to 128 whole sectors, a checkpoint, or a list by the marks.
+abbrev pub IsServedTask : Task → Type 0
+IsServedTask (WriteTask sector bytes) = IsPayload (length bytes)
+IsServedTask (Ask Checkpoint) = Unit {0}
+IsServedTask (Ask (ListRequest since false)) = Unit {0}
+IsServedTask task = ⊥
+
+-- A command is served yet: one of lane 0, whose task is.
+pub record IsServedCommand (command : Command) : Type 0 where
+  pub lane : command.id.lane ≡ 0
+  pub task : IsServedTask command.task
 
 -- What a write of a stream asks for: these bytes, from this sector on.
 pub record Write : Type 0 where
@@ -45,6 +61,11 @@ task_of_write write = WriteTask write.sector write.bytes
 abbrev pub commands_from : ℕ → List Task → List Command
 commands_from index [] = []
 commands_from index (task ∷ tasks) = command_of index task ∷ commands_from (index + 1) tasks
+
+-- Commands of lane 0 are numbered one after another, the first of them with this number, in whatever lines they stand.
+abbrev pub AreNumbered : ℕ → List Command → Type 0
+AreNumbered number [] = Unit {0}
+AreNumbered number (command ∷ commands) = (command.id ≡ lane_zero number) × AreNumbered (number + 1) commands
 
 -- What commands do, in their order.
 abbrev pub tasks_of : List Command → List Task

@@ -10,17 +10,19 @@ use Rattle.era_base.specs.Geometry.{blocks_of}
 use Rattle.era_model.specs.declared.history.Happening.{Happening}
 use Rattle.era_model.specs.Conditions.{ListsExactly}
 use Rattle.era_model.specs.Counts.{CountsAreWithin}
-use Rattle.era_model.specs.History.{era_of, in_flight}
+use Rattle.era_model.specs.History.{content, era_of, in_flight}
 use Rattle.era_model.specs.MarkLaws.{LastsAreBounded, MarkGivesEra, SwitchKeepsMarks}
 use Rattle.era_model.specs.Marks.{BlockMarks, blocks_of_marks, rolled, with_block, written_since}
 use Rattle.era_model.specs.StreamLists.{IsWrittenSince}
+use Rattle.era_model.specs.Writes.{block_bytes}
 use Rattle.era_model.specs.declared.command.Request.{Request}
 use Rattle.era_model.specs.declared.command.Request.TheVariants.{Checkpoint, List as ListRequest}
 use Rattle.era_model.specs.declared.command.Task.{Task}
 use Rattle.era_model.specs.declared.command.Task.TheVariants.{Write as WriteTask, Ask}
 use Rattle.era_top.specs.declared.outcome.Outcome.{Outcome}
 use Rattle.era_top.specs.declared.outcome.Outcome.TheVariants.{OutOfRange, Done, Cut, Moved, LastEra, Listed, NoMemory}
-use Rattle.era_top.specs.Runs.{commands_from, place_of_write, some_cut, IsJournalOf, ReadsAsJournal, Write}
+use Rattle.era_top.specs.Outcomes.{era_after_all}
+use Rattle.era_top.specs.Runs.{commands_from, place_of_write, some_cut, IsBetween, IsJournalOf, ReadsAsJournal, Write}
 
 -- The write's sectors lie in a block, from a sector of it on.
 pub record LiesInBlock (g : Geometry) (write : Write) (place : ℕ × ℕ) : Type 0 where
@@ -111,3 +113,39 @@ pub record HaveRun (g : Geometry) (contents : List ℕ) (tasks : List Task) (out
   pub reads : tells ≡ true → contents ≡ disk.seen → ReadsAsJournal g h disk'.seen
   pub clean : tells ≡ true → some_cut outcomes ≡ false
       → (block : ℕ) → IsWrittenSince g (commands_from 0 (take (length outcomes) tasks)) 1 block → IsClean disk'
+
+-- Commands were run in order, none of which was a write that was cut, with their journal: the marks follow it, and where the disk tells it, the origin has the content that it says and nothing is pending after a write in range.
+pub record Running (g : Geometry) (contents : List ℕ) (tasks : List Task) (outcomes : List Outcome) (marks : BlockMarks) (tells : Bool) (faults faults' : ℕ) (disk disk' : State) (h : List Happening) : Type 0 where
+  pub journal : IsJournalOf g contents tasks outcomes h
+  pub between : IsBetween g tasks marks (era_after_all 1 outcomes) h
+  pub count : length outcomes ≡ length tasks
+  pub no_cut : some_cut outcomes ≡ false
+  pub kept : faults' ≡ faults
+  pub reads : tells ≡ true → contents ≡ disk.seen → (block : ℕ) → block < blocks_of g.sectors g.block_sectors → content h block ≡ block_bytes g.block_sectors disk'.seen block
+  pub clean : tells ≡ true → (block : ℕ) → IsWrittenSince g (commands_from 0 tasks) 1 block → IsClean disk'
+
+-- Commands were run behind others of the same session, up to the first write that was cut: their journal, and, where none was cut, that more commands can be run behind them.
+pub record HaveRunOn (g : Geometry) (contents : List ℕ) (tasks : List Task) (outcomes : List Outcome) (marks : BlockMarks) (tells : Bool) (faults faults' : ℕ) (disk disk' : State) : Type 0 where
+  pub journal : List Happening
+  pub run : HaveRun g contents tasks outcomes tells marks.era faults faults' disk disk' journal
+  pub on : some_cut outcomes ≡ false → Running g contents tasks outcomes marks tells faults faults' disk disk' journal
+
+-- Commands were run behind any that were run before them, as many as a session may have together.
+abbrev pub RunBehind : Geometry → List Task → List Outcome → Bool → BlockMarks → BlockMarks → ℕ → ℕ → State → State → Type 0
+RunBehind g tasks outcomes tells marks marks' faults faults' disk disk' =
+    (contents : List ℕ) (before : List Task) (done : List Outcome) (at_first : ℕ) (first : State) (h : List Happening)
+    → length before + length tasks ≤ 65536
+    → Running g contents before done marks tells at_first faults first disk h
+    → HaveRunOn g contents (before ++ tasks) (done ++ outcomes) marks' tells at_first faults' first disk'
+
+-- A list of outcomes is empty, and has room for so many.
+pub record IsRoomFor (count : ℕ) (outcomes : List Outcome) (room : ℕ) : Type 0 where
+  pub none : outcomes ≡ []
+  pub enough : count ≤ room
+
+-- Of so many commands each was run, up to the first write that was cut: the disk's count of faults rose with it, and is as it was where none was cut.
+pub record StopsWhereCut (count : ℕ) (outcomes : List Outcome) (faults faults' : ℕ) : Type 0 where
+  pub few : length outcomes ≤ count
+  pub whole : some_cut outcomes ≡ false → length outcomes ≡ count
+  pub rose : some_cut outcomes ≡ true → Rose faults faults'
+  pub kept : some_cut outcomes ≡ false → faults' ≡ faults

@@ -1,16 +1,15 @@
 -- The number that the program ends with.
-use Rattle.std.specs.Prelude.{◌≡◌, ◌⊎◌, ℕ, ◌<◌, ◌≤◌, List, Option, Some}
+use Rattle.std.specs.Prelude.{◌≡◌, ◌⊎◌, ℕ, ◌<◌, ◌≤◌, List, All, Option, Some}
 use Rattle.era_base.specs.Faults.{Rose}
 use Rattle.era_base.specs.Geometry.{IsBlockSize, blocks_of}
 use Rattle.era_base.specs.declared.limits.TheConstants.{MOST_BLOCKS}
 use Rattle.era_line.specs.declared.table_line.TableLine.{TableLine}
-use Rattle.era_model.specs.declared.command.Command.{Command}
-use Rattle.era_plan.specs.Grammar.{lines_of}
-use Rattle.era_plan.specs.Rounds.{SpellRound}
+use Rattle.era_plan.specs.Stream.{AtEnd, stream_rounds}
 use Rattle.era_top.specs.declared.status.Status.{Status}
 use Rattle.era_top.specs.declared.status.Status.TheVariants.{Done, Usage, Line, Fault, Memory, Refused, Source, Sink}
 use Rattle.era_top.specs.Around.{DiskFacts, BayAround, StreamsAround}
 use Rattle.era_top.specs.Reports.{Reports}
+use Rattle.era_top.specs.Runs.{IsServedCommand}
 use Rattle.era_top.specs.Words.{IsServe}
 
 -- The number of a status.
@@ -40,7 +39,7 @@ pub record EndsAs {D : Type 0} (words : List (List ℕ)) (contents : List ℕ) (
   pub reports : Reports words contents disks bay streams status
   pub told : number_of status ≡ number
 
--- Nothing that a call is given is refused: the words are a serve command of a geometry, the origin isn't told to be smaller than it, and the stream's lines spell a round.
+-- Nothing that a call is given is refused: the words are a serve command of a geometry, the origin isn't told to be smaller than it, and the stream has rounds of served commands alone, up to its end.
 pub record IsServable (words : List (List ℕ)) (sizes : List ℕ → Option ℕ) (left : Option (List ℕ)) : Type 0 where
   pub line : TableLine
   pub serve : IsServe words line
@@ -50,5 +49,5 @@ pub record IsServable (words : List (List ℕ)) (sizes : List ℕ → Option ℕ
   pub large_enough : (have : ℕ) → sizes line.origin ≡ Some have → line.length ≤ have
   pub text : List ℕ
   pub stream : left ≡ Some text
-  pub commands : List Command
-  pub spelled : SpellRound (lines_of text) commands
+  pub ends : (stream_rounds text).end ≡ AtEnd
+  pub served : All (All IsServedCommand) (stream_rounds text).rounds

@@ -5,10 +5,9 @@ ghost use Rattle.era_base.specs.Faults.{HasCause};
 ghost use Rattle.era_line.specs.TextBuffer.{Adds};
 ghost use Rattle.era_model.specs.Transcript.{more_runs_text, run_text, runs_text};
 
-use crate::part::Part::{Number, Text};
-use crate::parts::give_parts;
 use era_base::{Failed, Sink};
-use era_line::TextBuffer;
+use era_line::Part::{Number, Text};
+use era_line::{TextBuffer, give_parts};
 
 /// Gives a run of blocks: its first and its last one, or the one that it has.
 fn give_run<K: Sink>(

@@ -4,12 +4,12 @@ ghost use Rattle.std.specs.Prelude.{◌≡◌};
 ghost use Rattle.era_top.specs.Needs.{TellsNeed};
 ghost use Rattle.era_top.specs.Rises.{HasSinkCause};
 
-use crate::part::Part::{Number, Text};
 use crate::refusal::Refusal;
 use crate::refuse::refuse;
 use crate::session_lines::give_last;
 use crate::status::Status;
 use era_base::{Geometry, Sink};
+use era_line::Part::{Number, Text};
 use era_line::TextBuffer;
 
 /// Tells how many metadata blocks of 4,096 bytes an origin of `sectors` sectors in blocks of `block_sectors` sectors

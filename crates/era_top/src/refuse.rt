@@ -7,12 +7,11 @@ ghost use Rattle.era_top.specs.Refusals.{geometry_text, refusal_text, refusal_st
 ghost use Rattle.era_top.specs.Rises.{HasSinkCause};
 ghost use Rattle.era_top.specs.Sessions.{Prints};
 
-use crate::part::Part::{Number, Text};
-use crate::parts::give_parts;
 use crate::refusal::Refusal;
 use crate::status::Status;
 use era_base::{Failed, GeomError, Sink};
-use era_line::TextBuffer;
+use era_line::Part::{Number, Text};
+use era_line::{TextBuffer, give_parts};
 
 /// The status of a call that serves nothing.
 pub fn status_of(refusal: Refusal) -> Status

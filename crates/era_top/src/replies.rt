@@ -2,17 +2,16 @@
 
 ghost use Rattle.std.specs.Prelude.{◌≡◌, ◌+◌, ◌*◌, ◌<◌, ◌≤◌, ◌^◌, length};
 ghost use Rattle.era_base.specs.Faults.{HasCause};
-ghost use Rattle.era_base.specs.declared.limits.TheConstants.{MOST_COMMANDS};
 ghost use Rattle.era_line.specs.TextBuffer.{Adds};
-ghost use Rattle.era_top.specs.Outcomes.{event_count, outcome_line, outcomes_text};
+ghost use Rattle.era_top.specs.Outcomes.{answers_text, event_count, outcome_line};
 
 use crate::block_list::give_runs;
 use crate::events::count_events;
 use crate::outcome::Outcome;
-use crate::part::Part::{Number, Text};
-use crate::parts::give_parts;
 use era_base::{Failed, Runs, Sink};
-use era_line::TextBuffer;
+use era_line::Part::{Number, Text};
+use era_line::{TextBuffer, give_parts};
+use era_plan::Command;
 
 /// Gives the reply of a write that went through, with its events from a place on.
 fn give_done<K: Sink>(
@@ -190,25 +189,29 @@ fn give_reply<K: Sink>(
     }
 }
 
-/// Gives the replies of all commands in order, the first of them for line 1 and with its events from place 0 on.
+/// Gives the replies to commands that went so, in order, the first of them with its events from a place on.
 pub fn give_replies<K: Sink>(
     text: &mut TextBuffer,
     sink: &mut K,
+    commands: &[Command],
     outcomes: &[Outcome],
+    first: u64,
 ) -> Result<(), Failed>
-    requires { length outcomes.now ≤ MOST_COMMANDS }
+    requires few { length outcomes.now ≤ length commands.now }
+    requires places { first + 4 * length outcomes.now < 2 ^ 64 }
     ensures added { Adds (K.given sink.old) text.old (K.given sink.new) text.new
-        (outcomes_text 1 0 outcomes.now) result }
+        (answers_text first commands.now outcomes.now) result }
     ensures cause { HasCause (K.faults sink.old) (K.faults sink.new) result }
 {
-    let mut line = 1;
-    let mut place = 0;
+    let mut place = first;
+    let mut index = 0;
     for outcome in outcomes {
+        let line = u64::from(commands[index].line);
         let Ok(()) = give_reply(text, sink, line, place, outcome) else {
             return Err(Failed);
         };
-        line += 1;
         place += count_events(outcome);
+        index += 1;
     }
     Ok(())
 }

@@ -1,13 +1,11 @@
 //! Runs the commands of a round, one after another, up to the first write that the origin fails.
 
-ghost use Rattle.std.specs.Prelude.{◌≡◌, ◌*◌, ◌<◌, ◌≤◌, ℕ, List, [], length, vec_len, vec_capacity, All};
+ghost use Rattle.std.specs.Prelude.{◌≡◌, length, vec_capacity, All};
 ghost use Rattle.era_base.specs.Geometry.{blocks_of};
-ghost use Rattle.era_base.specs.declared.limits.TheConstants.{MOST_COMMANDS};
-ghost use Rattle.era_model.specs.Marks.{blocks_of_marks, no_marks};
-ghost use Rattle.era_model.specs.declared.history.Happening.{Happening as happening};
-ghost use Rattle.era_plan.specs.Grammar.{IsPayload, IsServed};
-ghost use Rattle.era_top.specs.Runs.{tasks_of};
-ghost use Rattle.era_top.specs.Steps.{AnswersRequest, HaveRun, MovesEra, TaskWent, TellsBlocks, WriteWent};
+ghost use Rattle.era_model.specs.Marks.{blocks_of_marks};
+ghost use Rattle.era_plan.specs.Commands.{IsPayload};
+ghost use Rattle.era_top.specs.Runs.{IsServedTask, tasks_of};
+ghost use Rattle.era_top.specs.Steps.{AnswersRequest, IsRoomFor, MovesEra, RunBehind, StopsWhereCut, TaskWent, TellsBlocks, WriteWent};
 
 use crate::events::is_cut;
 use crate::outcome::Outcome;
@@ -75,7 +73,7 @@ fn run_list(alloc: Global, marks: &SessionMarks, since: u32) -> Outcome
 
 /// Does what a command asks of the marks.
 fn run_request(alloc: Global, request: Request, marks: &mut SessionMarks) -> Outcome
-    requires { IsServed (Task.Ask request) }
+    requires { IsServedTask (Task.Ask request) }
     ensures answered { AnswersRequest marks.old marks.new request result }
     ensures marks { blocks_of_marks marks.new ≡ blocks_of_marks marks.old }
 {
@@ -94,7 +92,7 @@ fn run_task<D: Disk>(
     marks: &mut SessionMarks,
     disk: &mut D,
 ) -> Outcome
-    requires served { IsServed task.now }
+    requires served { IsServedTask task.now }
     requires marks { blocks_of_marks marks.old
         ≡ blocks_of geometry.now.sectors geometry.now.block_sectors }
     requires disk { D.sectors disk.old ≡ geometry.now.sectors }
@@ -112,8 +110,8 @@ fn run_task<D: Disk>(
     }
 }
 
-/// Runs commands in their order, up to the first write that is cut. `outcomes` gets how each of them went. It takes
-/// memory for the runs of lists alone.
+/// Runs commands in their order, behind those that were run before, up to the first write that is cut. `outcomes` gets
+/// how each of them went. It takes memory for the runs of lists alone.
 pub fn run<D: Disk>(
     alloc: Global,
     geometry: &Geometry,
@@ -122,17 +120,18 @@ pub fn run<D: Disk>(
     outcomes: &mut Vec<Outcome>,
     disk: &mut D,
 )
-    requires few { length commands.now ≤ MOST_COMMANDS }
-    requires served { All (λ command. IsServed command.task) commands.now }
-    requires marks { marks.old ≡ no_marks geometry.now.sectors geometry.now.block_sectors 1 }
-    requires none { outcomes.old.items ≡ [] }
-    requires room { length commands.now ≤ vec_capacity outcomes.old }
-    requires disk { D.sectors disk.old ≡ geometry.now.sectors }
-    ensures run { (contents : List ℕ) → (journal : List happening)
-        × HaveRun geometry.now contents (tasks_of commands.now) outcomes.new.items D.tells
-        marks.new.era
-        (D.faults disk.old) (D.faults disk.new) (D.history disk.old).now
-        (D.history disk.new).now journal }
+    requires served { All (λ command. IsServedTask command.task) commands.now }
+    requires fit { (blocks_of_marks marks.old
+        ≡ blocks_of geometry.now.sectors geometry.now.block_sectors)
+        × (D.sectors disk.old ≡ geometry.now.sectors) }
+    requires room { IsRoomFor (length commands.now) outcomes.old.items
+        (vec_capacity outcomes.old) }
+    ensures run { RunBehind geometry.now (tasks_of commands.now) outcomes.new.items D.tells
+        marks.old marks.new (D.faults disk.old) (D.faults disk.new)
+        (D.history disk.old).now (D.history disk.new).now }
+    ensures stopped { StopsWhereCut (length commands.now) outcomes.new.items
+        (D.faults disk.old) (D.faults disk.new) }
+    ensures marks { blocks_of_marks marks.new ≡ blocks_of_marks marks.old }
     ensures size { D.sectors disk.new ≡ D.sectors disk.old }
     ensures place { D.place disk.new ≡ D.place disk.old }
 {

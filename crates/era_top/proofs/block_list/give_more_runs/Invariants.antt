@@ -1,5 +1,6 @@
 use Rattle.std.proofs.Common.{◌≡◌}
-use Rattle.era_top.proofs.Gives.{HasAdded, RunsStand}
+use Rattle.era_line.proofs.PartSteps.{HasAdded}
+use Rattle.era_top.proofs.Gives.{RunsStand}
 use Rattle.era_top.proofs.block_list.give_more_runs.Given as goal
 
 -- the runs so far were added, and with those that are left they are all

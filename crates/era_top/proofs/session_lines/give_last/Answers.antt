@@ -1,5 +1,5 @@
 use Rattle.std.proofs.Common.{◌++◌, refl, inl, inr}
-use Rattle.era_top.specs.Parts.{parts_text}
+use Rattle.era_line.specs.Parts.{parts_text}
 use Rattle.era_top.proofs.session_lines.give_last.Goals as goal
 
 -- the sink failed at a part
