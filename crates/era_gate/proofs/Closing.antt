@@ -90,7 +90,7 @@ at_index (x ∷ xs) (suc i) n is = at_index xs i n is
 
 -- the last state tells of its acts
 module _ (plan : Plan) (id : ℕ) (parts : List StripePart) (v : View) where
-  tells_of : (words : List ℕ) (views : List View) (m : Hidden) → Standing plan words views m → get_elem? views id ≡ some (with_stripes parts v) → length parts ≡ plan.stripes → ((l : ℕ) → l < 65 → has_lane l v.pass.lanes ≡ true)
+  pub tells_of : (words : List ℕ) (views : List View) (m : Hidden) → Standing plan words views m → get_elem? views id ≡ some (with_stripes parts v) → length parts ≡ plan.stripes → ((l : ℕ) → l < 65 → has_lane l v.pass.lanes ≡ true)
       → Tells plan (slice_index words 1) parts (keeper_of v) v.pass.lanes m.acts
   tells_of words views m st at size lanes =
       let fit = st.views_fit id (with_stripes parts v) at in

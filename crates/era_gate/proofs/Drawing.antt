@@ -1,5 +1,5 @@
 -- A stripe and the keeper may draw the next place.
-use Rattle.std.proofs.Common.{◌≡◌, ℕ, zero, suc, ◌+◌, ◌*◌, ◌%◌, ◌^◌, ◌<◌, ◌≤◌, ◌==◌, ◌||◌, Bool, true, false, None, List, [], ◌∷◌, set, slice_index, refl, sym, ap, ◌∙◌, subst, ⊎_elim, arith, get_or-set_same, get_or-set_other, eqb-true}
+use Rattle.std.proofs.Common.{◌≡◌, ℕ, zero, suc, ◌+◌, ◌-◌, ◌*◌, ◌%◌, ◌^◌, ◌<◌, ◌≤◌, ◌==◌, ◌||◌, Bool, true, false, None, List, [], ◌∷◌, set, slice_index, refl, sym, ap, ◌∙◌, subst, ⊎_elim, arith, get_or-set_same, get_or-set_other, eqb-true}
 use Rattle.std.proofs.lemmas.Bool.{or_cases, MatchBool-at_true, MatchBool-at_false}
 use mathlib.Core.Option.{none, some, some-injective, some-ne-none}
 use lib.ListN.{get_elem?}
@@ -16,8 +16,8 @@ use Rattle.era_gate.specs.declared.parts.LanePart.{LanePart}
 use Rattle.era_gate.specs.declared.parts.PassPart.{PassPart}
 use Rattle.era_gate.specs.declared.parts.View.{View}
 use Rattle.era_gate.specs.declared.plan.Plan.{Plan}
-use Rattle.era_gate.specs.Acts.{Act, Account, stripe_drew, keeper_drew, after, flights, lane_of, has_go, found_of, count, inside_of, GateMayGo, StripeMayDraw, KeeperMayDraw, MayAct}
-use Rattle.era_gate.specs.Parts.{has_lane, stripe_with_pass, keeper_with_pass, view_after}
+use Rattle.era_gate.specs.Acts.{Act, Account, stripe_drew, keeper_drew, after, places_after, flights, lane_of, has_go, found_of, count, inside_of, GateMayGo, StripeMayDraw, KeeperMayDraw, MayAct}
+use Rattle.era_gate.specs.Parts.{has_lane, stripe_with_pass, keeper_with_pass, view_after, budget_after, cleared_after}
 use Rattle.era_gate.specs.Rule.{Hidden, Standing, Ruled, StripeFits, LaneFits, Each, budgets}
 use Rattle.era_gate.specs.Calls.{has_seen, has_gone, GoAsks, StripeAsks, KeeperAsks, PassAsks}
 use Rattle.era_gate.specs.Plays.{Draws, KeeperDraws, drew, keeper_drawn}
@@ -97,6 +97,32 @@ budget_among [] id v at = absurd (some-ne-none v (sym at))
 budget_among (x ∷ xs) zero v at = let same : x.pass.budget ≡ v.pass.budget = ap (λ (u : View). u.pass.budget) (some-injective x v at) in omega arith
 budget_among (x ∷ xs) (suc id) v at = let rest = budget_among xs id v at in omega arith
 
+-- an act that draws takes a place and one of the budget; neither the era nor who is inside changes
+record IsDraw (n : ℕ) (a : Account) (x : Act) : Type 0 where
+  places : places_after x a.places ≡ a.places + 1
+  budget : (b : ℕ) → budget_after x b ≡ b - 1
+  cleared : (c : ℕ) → cleared_after x c ≡ c
+  era : (after a x).keeper.era ≡ a.keeper.era
+  inside : count n (inside_of a) ≡ count n (inside_of (after a x))
+
+-- the rule after a draw by a seat with a pass: the order word is one greater, and it was below 2^60
+draw_stands : (plan : Plan) (words : List ℕ) (views : List View) (m : Hidden) (id : ℕ) (v : View) (x : Act) → Standing plan words views m → get_elem? views id ≡ some v
+    → MayAct plan.stripes m.account x → Owns m id x → IsDraw plan.stripes m.account x → 0 < v.pass.budget
+    → (slice_index words 1 < 1152921504606846976) × Standing plan (set words 1 ((slice_index words 1 + 1) % 2 ^ 64)) (set views id (view_after x m.account.places m.account.keeper.era v)) (hidden_after m x)
+draw_stands plan words views m id v x st at may owns draw some_ =
+    let n : ℕ = slice_index words 1 in
+    let order : n ≡ m.account.places = st.order in
+    let size = st.size in
+    let all = st.budget in
+    let mine = budget_among views id v at in
+    let n' : ℕ = (n + 1) % 2 ^ 64 in
+    let places = draw.places in
+    let spent = draw.budget v.pass.budget in
+    let next : n' ≡ places_after x m.account.places = omega arith in
+    let gate = get_or-set_other words 1 0 n' 0 (λ same. absurd (omega arith)) ∙ (st.gate ∙ ap (λ c. m.account.keeper.era * 4294967296 + c) draw.inside) in
+    let shown = low_words plan words views m x 1 n' st (omega arith) draw.era (draw.cleared m.cleared) gate (get_or-set_same words 1 n' 0 (omega arith) ∙ next) in
+    (omega arith, act_moves plan words (set words 1 n') views m id v x m.account.keeper.era st at may owns refl (omega arith) shown)
+
 draw_view : (p : StripePart) (q : PassPart) (event : Event) (place e : ℕ) → view_after (stripe_drew p.stripe event) place e (stripe_with_pass p q) ≡ drew event place (stripe_with_pass p q)
 draw_view p q event place e = rw (self_eq p.stripe) refl
 
@@ -109,28 +135,25 @@ draw_allows plan slots id p q event asks pass s ruled homes at small =
     let n : ℕ = slice_index s.words 1 in
     let fit = st.views_fit id v at in
     let h = fit.stripes.0 in
-    let k : ℕ = p.stripe in
-    let x : Act = stripe_drew k event in
+    let x : Act = stripe_drew p.stripe event in
     let may : MayAct plan.stripes m.account x = (h.low, stripe_may plan m id p q.lanes (sound_of plan s.words s.views m st) h fit.lanes event asks pass.0) in
     let owns : Owns m id x = record {
-      stripes = λ d is. ap m.stripe_owner (eqb-true d k is) ∙ h.own;
+      stripes = λ d is. ap m.stripe_owner (eqb-true d p.stripe is) ∙ h.own;
       keeper = λ never. absurd (clash never refl);
       lanes = λ l is. ap m.lane_owner (eqb-true l (lane_of event) is) ∙ lane_owned m id (lane_of event) q.lanes pass.0 fit.lanes;
     } in
-    let counted : count plan.stripes (inside_of m.account) ≡ count plan.stripes (inside_of (after m.account x)) = count_agrees plan.stripes (inside_of m.account) (inside_of (after m.account x)) (λ d low. sym (inside_same k event m.account.places d (m.account.stripe d))) in
-    let order : n ≡ m.account.places = st.order in
-    let size = st.size in
-    let most = st.budget in
-    let some_ = pass.1 in
-    let mine : q.budget ≤ budgets s.views = budget_among s.views id v at in
-    let n' : ℕ = (n + 1) % 2 ^ 64 in
-    let next : (n + 1) % 2 ^ 64 ≡ m.account.places + 1 = omega arith in
-    let words' : List ℕ = set s.words 1 n' in
-    let shown = low_words plan s.words s.views m x 1 n' st (omega arith) refl refl
-    (get_or-set_other s.words 1 0 n' 0 (λ same. absurd (omega arith)) ∙ (st.gate ∙ ap (λ c. m.account.keeper.era * 4294967296 + c) counted)) (get_or-set_same s.words 1 n' 0 (omega arith) ∙ next) in
-    let stands = act_moves plan s.words words' s.views m id v x m.account.keeper.era st at may owns refl (omega arith) shown in
+    let draw : IsDraw plan.stripes m.account x = record {
+      places = refl;
+      budget = λ b. refl;
+      cleared = λ c. refl;
+      era = refl;
+      inside = count_agrees plan.stripes (inside_of m.account) (inside_of (after m.account x)) (λ d low. sym (inside_same p.stripe event m.account.places d (m.account.stripe d)));
+    } in
+    let stands = draw_stands plan s.words s.views m id v x st at may owns draw pass.1 in
+    let order = st.order in
     let low = fit.floor in
-    (drew event n v, keeps, tt, (hidden_after m x, subst (λ (w : View). Standing plan words' (set s.views id w) (hidden_after m x)) (draw_view p q event m.account.places m.account.keeper.era ∙ ap (λ place. drew event place v) (sym order)) stands), (refl, omega arith, omega arith))
+    let is : view_after x m.account.places m.account.keeper.era v ≡ drew event n v = draw_view p q event m.account.places m.account.keeper.era ∙ ap (λ place. drew event place v) (sym order) in
+    (drew event n v, keeps, tt, (hidden_after m x, subst (λ (w : View). Standing plan (set s.words 1 ((n + 1) % 2 ^ 64)) (set s.views id w) (hidden_after m x)) is stands.1), (refl, omega arith, stands.0))
 
 pub keeper_draw_allows : (plan : Plan) (slots id : ℕ) (p : KeeperPart) (q : PassPart) (event : Event) → KeeperAsks event p → PassAsks event q
     → Allows (Ruled plan) slots id (keeper_with_pass p q, []) 1 (λ n. (n + 1) % 2 ^ 64) (KeeperDraws event (step slots 1 1 0 none) (keeper_with_pass p q, []))
@@ -148,16 +171,9 @@ keeper_draw_allows plan slots id p q event asks pass s ruled homes at small =
       keeper = λ on. h.own;
       lanes = λ l is. ap m.lane_owner (eqb-true l (lane_of event) is) ∙ lane_owned m id (lane_of event) q.lanes pass.0 fit.lanes;
     } in
-    let order : n ≡ m.account.places = st.order in
-    let size = st.size in
-    let most = st.budget in
-    let some_ = pass.1 in
-    let mine : q.budget ≤ budgets s.views = budget_among s.views id v at in
-    let n' : ℕ = (n + 1) % 2 ^ 64 in
-    let next : (n + 1) % 2 ^ 64 ≡ m.account.places + 1 = omega arith in
-    let words' : List ℕ = set s.words 1 n' in
-    let shown = low_words plan s.words s.views m x 1 n' st (omega arith) refl refl
-    (get_or-set_other s.words 1 0 n' 0 (λ same. absurd (omega arith)) ∙ st.gate) (get_or-set_same s.words 1 n' 0 (omega arith) ∙ next) in
-    let stands = act_moves plan s.words words' s.views m id v x m.account.keeper.era st at may owns refl (omega arith) shown in
+    let draw : IsDraw plan.stripes m.account x = record { places = refl; budget = λ b. refl; cleared = λ c. refl; era = refl; inside = refl } in
+    let stands = draw_stands plan s.words s.views m id v x st at may owns draw pass.1 in
+    let order = st.order in
     let low = fit.floor in
-    (keeper_drawn event n v, keeps, tt, (hidden_after m x, subst (λ (w : View). Standing plan words' (set s.views id w) (hidden_after m x)) (ap (λ place. keeper_drawn event place v) (sym order)) stands), (refl, omega arith, omega arith))
+    let is : view_after x m.account.places m.account.keeper.era v ≡ keeper_drawn event n v = ap (λ place. keeper_drawn event place v) (sym order) in
+    (keeper_drawn event n v, keeps, tt, (hidden_after m x, subst (λ (w : View). Standing plan (set s.words 1 ((n + 1) % 2 ^ 64)) (set s.views id w) (hidden_after m x)) is stands.1), (refl, omega arith, stands.0))

@@ -13,6 +13,7 @@ mod Cuts
 mod Joining
 mod Placed
 mod PassCuts
+mod PassKept
 mod Learning
 mod Closing
 mod Passing
@@ -39,3 +40,5 @@ mod InvariantSums
 mod InvariantViews
 mod InvariantHolds
 mod Collected
+mod Reached
+mod ToldWords

@@ -12,7 +12,7 @@ use Rattle.era_gate.specs.declared.parts.View.{View}
 use Rattle.era_gate.specs.declared.plan.Plan.{Plan}
 use Rattle.era_gate.specs.Acts.{opened, count}
 use Rattle.era_gate.specs.Parts.{new_stripe, new_lane, new_pass, has_stripe, has_lane, first_view, stripe_view, keeper_view}
-use Rattle.era_gate.specs.Rule.{Hidden, Ruled, Fits, StripeFits, LaneFits, Each, AreDistinct, IsPlan, bitmap_at}
+use Rattle.era_gate.specs.Rule.{Hidden, Ruled, Standing, Fits, StripeFits, LaneFits, Each, AreDistinct, IsPlan, bitmap_at}
 use Rattle.era_gate.specs.Calls.{StripeToken, TableId, new_seat}
 use Rattle.era_gate.specs.Plays.{Sat, part_of, keeper_of, without_stripe, without_keeper, other_stripes, first_words, IsRow, IsFirstStripe}
 use Rattle.era_gate.proofs.Choices.{clash}
@@ -21,12 +21,12 @@ use Rattle.era_gate.proofs.Splitting.{splits}
 use Rattle.era_gate.proofs.Cuts.{cut_stripe, cut_keeper}
 
 -- zeros
-zero_at : (n i : ℕ) → slice_index (replicate n 0) i ≡ 0
+pub zero_at : (n i : ℕ) → slice_index (replicate n 0) i ≡ 0
 zero_at zero i = refl
 zero_at (suc n) zero = refl
 zero_at (suc n) (suc i) = zero_at n i
 
-length_zeros : (n : ℕ) → length {A = ℕ} (replicate n 0) ≡ n
+pub length_zeros : (n : ℕ) → length {A = ℕ} (replicate n 0) ≡ n
 length_zeros zero = refl
 length_zeros (suc n) = ap suc (length_zeros n)
 
@@ -68,21 +68,18 @@ has_new_lane l i (suc c) low high = elim (cases_eq l i) [
 pub all_lanes : (l : ℕ) → l < 65 → has_lane l new_pass.lanes ≡ true
 all_lanes l low = has_new_lane l 0 65 (omega arith) (omega arith)
 
-first_hidden : Plan → Hidden
+abbrev pub first_hidden : Plan → Hidden
 first_hidden plan = record { acts = []; account = opened plan.era; cleared = 0; stripe_owner = λ d. 0; keeper_owner = 0; lane_owner = λ l. 0 }
 
 each_new : (plan : Plan) (i c : ℕ) → i + c ≤ plan.stripes → Each (StripeFits plan (first_hidden plan) 0) (tabulate i c new_stripe)
-unfolding first_hidden
 each_new plan i zero low = tt
 each_new plan i (suc c) low = (record { own = refl; low = omega arith; state = refl; era = λ inside. absurd (clash inside refl); seen = tt }, each_new plan (i + 1) c (omega arith))
 
 each_lane : (plan : Plan) (i c : ℕ) → Each (LaneFits (first_hidden plan) 0) (tabulate i c new_lane)
-unfolding first_hidden
 each_lane plan i zero = tt
 each_lane plan i (suc c) = (record { own = refl; receipts = refl }, each_lane plan (i + 1) c)
 
 first_fits : (plan : Plan) → Fits plan (first_hidden plan) 0 (first_view plan)
-unfolding first_hidden
 first_fits plan = record {
   stripes = each_new plan 0 plan.stripes (omega arith);
   keepers = (record { own = refl; state = refl; cleared = refl }, tt);
@@ -98,30 +95,26 @@ only_view v w zero at = (refl, some-injective v w at)
 only_view v w (suc id) at = absurd (some-ne-none w (sym at))
 
 -- the rule of a gate that was just made
-pub made : (plan : Plan) → IsPlan plan → plan.era < 4294967296 → Ruled plan (opening (first_words plan) [] (first_view plan))
-unfolding first_hidden
-made plan fits era = (
-  first_hidden plan,
-  record {
-    plan_fits = fits;
-    size = size;
-    era_fits = era;
-    account_is = refl;
-    legal = tt;
-    gate = get_or-set_same (replicate (2 + 2 * plan.words) 0) 0 (plan.era * 4294967296) 0 (omega (arith, zeros)) ∙ omega (arith, count_zero plan.stripes);
-    order = rest 1 (omega arith);
-    budget = omega arith;
-    bits = λ block low on. absurd (clash on (ap (λ k. bit_of k (block % 64)) (rest (bitmap_at plan plan.era + block / 64) (omega arith)) ∙ bit_zero (block % 64)));
-    spare = λ i low. absurd (omega arith);
-    spare_low = omega arith;
-    views_fit = λ id view at. let one = only_view (first_view plan) view id at in subst (λ k. Fits plan (first_hidden plan) k view) (sym one.0) (subst (Fits plan (first_hidden plan) 0) one.1 (first_fits plan));
-    there = record {
-      stripes = λ d low. (first_view plan, refl, has_new d 0 plan.stripes (omega arith) (omega arith));
-      keeper = (first_view plan, refl, refl);
-      lanes = λ l low. (first_view plan, refl, all_lanes l low);
-    };
-  },
-) where
+pub first_stands : (plan : Plan) → IsPlan plan → plan.era < 4294967296 → Standing plan (first_words plan) (first_view plan ∷ []) (first_hidden plan)
+first_stands plan fits era = record {
+  plan_fits = fits;
+  size = size;
+  era_fits = era;
+  account_is = refl;
+  legal = tt;
+  gate = get_or-set_same (replicate (2 + 2 * plan.words) 0) 0 (plan.era * 4294967296) 0 (omega (arith, zeros)) ∙ omega (arith, count_zero plan.stripes);
+  order = rest 1 (omega arith);
+  budget = omega arith;
+  bits = λ block low on. absurd (clash on (ap (λ k. bit_of k (block % 64)) (rest (bitmap_at plan plan.era + block / 64) (omega arith)) ∙ bit_zero (block % 64)));
+  spare = λ i low. absurd (omega arith);
+  spare_low = omega arith;
+  views_fit = λ id view at. let one = only_view (first_view plan) view id at in subst (λ k. Fits plan (first_hidden plan) k view) (sym one.0) (subst (Fits plan (first_hidden plan) 0) one.1 (first_fits plan));
+  there = record {
+    stripes = λ d low. (first_view plan, refl, has_new d 0 plan.stripes (omega arith) (omega arith));
+    keeper = (first_view plan, refl, refl);
+    lanes = λ l low. (first_view plan, refl, all_lanes l low);
+  };
+} where
   zeros : length {A = ℕ} (replicate (2 + 2 * plan.words) 0) ≡ 2 + 2 * plan.words
   zeros = length_zeros (2 + 2 * plan.words)
 
@@ -130,6 +123,9 @@ made plan fits era = (
 
   rest : (i : ℕ) → 0 < i → slice_index (set (replicate (2 + 2 * plan.words) 0) 0 (plan.era * 4294967296)) i ≡ 0
   rest i low = get_or-set_other (replicate (2 + 2 * plan.words) 0) 0 i (plan.era * 4294967296) 0 (λ same. absurd (omega arith)) ∙ zero_at (2 + 2 * plan.words) i
+
+pub made : (plan : Plan) → IsPlan plan → plan.era < 4294967296 → Ruled plan (opening (first_words plan) [] (first_view plan))
+made plan fits era = (first_hidden plan, first_stands plan fits era)
 
 -- a view's first stripe, and the keeper, may go to seats of their own
 pub stripe_off_at : (plan : Plan) (id : ℕ) (v : View) (p : StripePart) → v.stripes ≡ p ∷ other_stripes v.stripes → Splits (Ruled plan) id v (without_stripe v) (stripe_view (part_of v))

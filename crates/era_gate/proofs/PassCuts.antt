@@ -69,7 +69,7 @@ module _ (first : ℕ) where
     chosen false true false t h says' rest = ap (λ c. c || has_lane l (filter test xs)) h ∙ rest
     chosen false false here t h says' rest = rest
 
-  same_test : (l : ℕ) (p : LanePart) → (l == p.lane) ≡ true → below p ≡ nat_lt l first
+  pub same_test : (l : ℕ) (p : LanePart) → (l == p.lane) ≡ true → below p ≡ nat_lt l first
   same_test l p is = ap (λ (k : ℕ). nat_lt k first) (sym (eqb-true l p.lane is))
 
   pub has_below : (l : ℕ) (xs : List LanePart) → has_lane l (filter below xs) ≡ cond (nat_lt l first) (has_lane l xs) false

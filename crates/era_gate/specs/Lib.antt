@@ -1,4 +1,5 @@
 -- Acts under the gate, what threads know of them, and the rule that ties both to the gate's words.
+pub mod StateAfter
 pub mod Acts
 pub mod Drawn
 pub mod Eras
@@ -10,9 +11,11 @@ pub mod RowsOfActs
 pub mod Parts
 pub mod Rule
 pub mod Calls
+pub mod Passes
 pub mod Rolls
 pub mod Tells
 pub mod Plays
-pub mod Rows
 pub mod Together
 pub mod Invariant
+pub mod States
+pub mod RowsOfViews

@@ -1,5 +1,5 @@
 -- What each atomic step tells the thread that made it: the seat's view after it.
-use Rattle.std.specs.Prelude.{◌≡◌, ◌≢◌, ℕ, ◌+◌, ◌-◌, ◌*◌, ◌/◌, ◌%◌, ◌<◌, ◌≤◌, ◌==◌, cond, List, [], ◌∷◌, replicate, slice_set}
+use Rattle.std.specs.Prelude.{◌≡◌, ◌≢◌, ℕ, ◌+◌, ◌-◌, ◌*◌, ◌/◌, ◌%◌, ◌<◌, ◌≤◌, ◌==◌, cond, true, List, [], ◌∷◌, replicate, slice_set}
 use Rattle.atomic_table.specs.Table.{Me, Step}
 use Rattle.atomic_table.specs.Seated.{TableId}
 use Rattle.era_base.specs.Bits.{bit_of}
@@ -102,6 +102,13 @@ Clears index s me found me' = me' ≡ (cleared_to (index + 1) me.0, me.1)
 abbrev pub Exchanges : Step (Unit {0}) → Sat → ℕ → Sat → Type 0
 Exchanges s me found me' =
     (me' ≡ (keeper_with_pass (exchanged_part s.first found me.0) me.0.pass, me.1)) × (found ≢ s.first → (0 < found % 4294967296) × (found % 4294967296 ≤ 16))
+
+-- The keeper may exchange the gate word of an era: the whole spare bitmap is cleared, the switch to the era is drawn, and it isn't the last one.
+pub record MayExchange (plan : Plan) (era : ℕ) (part : KeeperPart) : Type 0 where
+  pub cleared : part.cleared ≡ plan.words
+  pub switched : part.state.switched ≡ true
+  pub present : era ≡ part.state.era
+  pub next : era + 1 < 4294967296
 
 -- The parts behind the first.
 abbrev pub other_stripes : List StripePart → List StripePart

@@ -2,7 +2,8 @@
 
 ghost use Rattle.std.specs.Prelude.{◌≡◌, ℕ, ◌+◌, ◌≤◌, ◌<◌, ◌^◌, true, false, None};
 ghost use Rattle.era_base.specs.declared.ids.CmdId.{CmdId};
-ghost use Rattle.era_gate.specs.Calls.{has_lane, has_gone, has_mark, is_mark, stay_of, enters, pass_enters, sees, leaves, pass_leaves, draws, keeper_draws, pass_draws, clears, StripeAsks, KeeperAsks, PassAsks};
+ghost use Rattle.era_gate.specs.Calls.{has_lane, has_mark, stay_of, enters, pass_enters, sees, leaves, pass_leaves, draws, keeper_draws, pass_draws, clears, StripeAsks, KeeperAsks, PassAsks};
+ghost use Rattle.era_gate.specs.Passes.{KeepsPass, KnowsEnded, HasMarks, no_write};
 ghost use Rattle.era_gate.specs.Rolls.{rolls, IsAnswer};
 ghost use Rattle.era_model.specs.Events.{is_go_of};
 
@@ -50,10 +51,7 @@ impl Gate {
           table = pass.old.table;
           part = pass_enters pass.old.part (stay_of seat.old.part pass.old.part id);
         } }
-        ensures lanes { (l : ℕ)
-            → has_lane l pass.new.part.lanes ≡ has_lane l pass.old.part.lanes }
-        ensures gone { (i : CmdId)
-            → has_gone i pass.new.part.lanes ≡ has_gone i pass.old.part.lanes }
+        ensures keeps { KeepsPass 0 no_write pass.old pass.new }
     {
         steps::take_in(&self.board, &mut seat.place, &mut pass.badge);
         let found = steps::enter::<Brand>(&self.board, &mut seat.place, id);
@@ -92,10 +90,7 @@ impl Gate {
           part = pass_draws pass.old.part event.now result;
         } }
         ensures floor { (pass.old.part.floor ≤ result) × (result < 2 ^ 60) }
-        ensures lanes { (l : ℕ)
-            → has_lane l pass.new.part.lanes ≡ has_lane l pass.old.part.lanes }
-        ensures gone { (i : CmdId) → is_go_of i event.now ≡ false
-            → has_gone i pass.new.part.lanes ≡ has_gone i pass.old.part.lanes }
+        ensures keeps { KeepsPass 1 (λ id. is_go_of id event.now) pass.old pass.new }
     {
         steps::take_in(&self.board, &mut seat.place, &mut pass.badge);
         let place = steps::draw_stripe::<Brand>(&self.board, &mut seat.place, event);
@@ -117,12 +112,8 @@ impl Gate {
           part = pass_draws pass.old.part event.now result;
         } }
         ensures floor { (pass.old.part.floor ≤ result) × (result < 2 ^ 60) }
-        ensures lanes { (l : ℕ)
-            → has_lane l pass.new.part.lanes ≡ has_lane l pass.old.part.lanes }
-        ensures gone { (i : CmdId) → is_go_of i event.now ≡ false
-            → has_gone i pass.new.part.lanes ≡ has_gone i pass.old.part.lanes }
-        ensures marked { (block era : ℕ) → is_mark block era event.now ≡ true
-            → has_mark block era seat.new.part.state.entries ≡ true }
+        ensures keeps { KeepsPass 1 (λ id. is_go_of id event.now) pass.old pass.new }
+        ensures marks { HasMarks event.now seat.old.part.state.entries seat.new.part.state.entries }
     {
         steps::take_in(&self.board, &mut seat.place, &mut pass.badge);
         let place = steps::draw_keeper::<Brand>(&self.board, &mut seat.place, event);
@@ -140,6 +131,8 @@ impl Gate {
           table = pass.old.table;
           part = pass_leaves pass.old.part seat.old.part;
         } }
+        ensures keeps { KeepsPass 0 no_write pass.old pass.new }
+        ensures knows { KnowsEnded seat.new.part pass.new.part }
     {
         steps::take_in(&self.board, &mut seat.place, &mut pass.badge);
         steps::leave(&self.board, &mut seat.place);

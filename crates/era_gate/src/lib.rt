@@ -10,16 +10,16 @@ pub mod invariant;
 pub mod laws;
 mod make;
 mod parts;
+pub mod pass_laws;
 mod passes;
 mod plan;
 mod plays;
 mod rolled;
 mod seats;
+pub mod state_laws;
 mod states;
 mod stays;
 mod steps;
-#[cfg(test)]
-mod tests;
 mod words;
 
 pub use gate::Gate;

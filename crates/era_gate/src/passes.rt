@@ -1,7 +1,8 @@
 //! Passes cut in two, made one, and taught of stays.
 
-ghost use Rattle.std.specs.Prelude.{◌≡◌, ℕ, ◌≤◌, ◌<◌, ◌||◌, [], ◌∷◌};
-ghost use Rattle.era_gate.specs.Calls.{cut_down, cut_off, joined_pass, learns, has_lane};
+ghost use Rattle.std.specs.Prelude.{◌≡◌, ◌≤◌, ◌<◌, [], ◌∷◌};
+ghost use Rattle.era_gate.specs.Calls.{cut_down, cut_off, joined_pass, learns};
+ghost use Rattle.era_gate.specs.Passes.{AreCutAt, AreJoined, KeepsPass, KnowsBegun, KnowsEnded, no_write};
 ghost use Rattle.era_gate.specs.Parts.{pass_in, pass_view};
 ghost use Rattle.era_gate.specs.Plays.{IsStripeAt, part_of, without_pass};
 
@@ -85,13 +86,16 @@ impl Gate {
           table = pass.old.table;
           part = learns pass.old.part seat.old.part;
         } }
+        ensures keeps { KeepsPass 0 no_write pass.old pass.new }
+        ensures begun { KnowsBegun seat.new.part pass.new.part }
+        ensures ended { KnowsEnded seat.new.part pass.new.part }
     {
         take_in(&self.board, &mut seat.place, &mut pass.badge);
         learn_off(&self.board, &mut seat.place, &mut pass.badge);
     }
 
-    /// Cuts a second pass off: the lanes from `first` on with their receipts, and so many draws. Both know what the pass
-    /// knew.
+    /// Cuts a second pass off: the lanes from `first` on with their receipts, and so many draws. Both have the floor and
+    /// know the stays that the pass had and knew.
     pub fn split_pass(&self, pass: &mut Pass, first: u32, budget: u64) -> Pass
         requires table { pass.old.table ≡ self.now.table }
         requires budget { budget ≤ pass.old.part.budget }
@@ -103,8 +107,7 @@ impl Gate {
           table = pass.old.table;
           part = cut_off pass.old.part first budget;
         } }
-        ensures lanes { (l : ℕ) → has_lane l pass.old.part.lanes
-            ≡ (has_lane l pass.new.part.lanes || has_lane l result.part.lanes) }
+        ensures cut { AreCutAt first pass.old.part.lanes pass.new.part.lanes result.part.lanes }
     {
         let badge = lanes_off::<Brand>(&self.board, &mut pass.badge, first, budget);
         Pass { badge }
@@ -117,8 +120,7 @@ impl Gate {
           table = pass.old.table;
           part = joined_pass pass.old.part other.part;
         } }
-        ensures lanes { (l : ℕ) → has_lane l pass.new.part.lanes
-            ≡ (has_lane l pass.old.part.lanes || has_lane l other.part.lanes) }
+        ensures joined { AreJoined pass.old.part.lanes other.part.lanes pass.new.part.lanes }
     {
         let Pass { badge } = other;
         lanes_in(&self.board, &mut pass.badge, badge);

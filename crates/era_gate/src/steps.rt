@@ -4,7 +4,7 @@ ghost use Rattle.std.specs.Prelude.{◌≡◌, ◌≢◌, ◌+◌, ◌*◌, ◌/
 ghost use Rattle.era_base.specs.Bits.{bit_of};
 ghost use Rattle.era_gate.specs.Calls.{StripeAsks, KeeperAsks, PassAsks, has_mark};
 ghost use Rattle.era_gate.specs.Parts.{has_lane, pass_view, pass_in, keeper_with_pass};
-ghost use Rattle.era_gate.specs.Plays.{IsStripeAt, IsKeeperAt, part_of, keeper_of, entered, left, drew, keeper_drawn, looked, cleared_to, exchanged_part, without_pass, with_pass_of};
+ghost use Rattle.era_gate.specs.Plays.{IsStripeAt, IsKeeperAt, MayExchange, part_of, keeper_of, entered, left, drew, keeper_drawn, looked, cleared_to, exchanged_part, without_pass, with_pass_of};
 ghost use Rattle.era_gate.specs.Rule.{bitmap_at};
 
 use crate::about::About;
@@ -152,9 +152,7 @@ pub(crate) fn exchange(board: &Board, place: &mut Place, era: u32) -> u64
     requires table { place.old.table_id ≡ board.now.shared.table_id }
     requires words { 1 < board.now.shared.table_id.words }
     requires view { IsKeeperAt place.old.me }
-    requires clear { (keeper_of place.old.me.0).cleared ≡ board.now.shared.key.words }
-    requires switched { (keeper_of place.old.me.0).state.switched ≡ true }
-    requires era { (era ≡ (keeper_of place.old.me.0).state.era) × (era + 1 < 2 ^ 32) }
+    requires may { MayExchange board.now.shared.key era (keeper_of place.old.me.0) }
     ensures table { place.new.table_id ≡ place.old.table_id }
     ensures view { place.new.me ≡ (
       keeper_with_pass

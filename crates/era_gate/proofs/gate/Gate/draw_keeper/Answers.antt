@@ -1,32 +1,23 @@
-use Rattle.std.proofs.Common.{List, refl, ap, ◌∙◌}
-use Rattle.era_gate.specs.declared.parts.View.{View}
-use Rattle.era_gate.specs.declared.stays.Receipt.TheVariants.{OfEvent}
-use Rattle.era_gate.specs.Acts.{entry, lane_of}
-use Rattle.era_gate.specs.Parts.{has_lane, pass_in}
-use Rattle.era_gate.specs.Calls.{PassToken, has_gone, has_mark}
-use Rattle.era_gate.specs.Plays.{Sat, keeper_of}
-use Rattle.era_gate.proofs.Accounts.{has_mark-behind}
-use Rattle.era_gate.proofs.Passing.{receives_lanes, receives_gone, event_gone}
+use Rattle.std.proofs.Common.{rules, sym, subst}
+use Rattle.era_model.specs.Events.{is_go_of}
+use Rattle.era_gate.specs.Calls.{KeeperToken}
+use Rattle.era_gate.specs.Passes.{KeepsPass, HasMarks}
+use Rattle.era_gate.proofs.PassKept.{draw_keeps, marks_drawn}
 use Rattle.era_gate.proofs.gate.Gate.draw_keeper.Goals as goal
 
-pub returns-clause-lanes : goal.returns-clause-lanes
-returns-clause-lanes c l =
-    ap (λ (vs : List View). has_lane l (pass_in vs).lanes) c.give_off.ensures.pass
-    ∙ (ap (λ (z : Sat). has_lane l z.0.pass.lanes) c.draw_keeper-place.ensures.view
-    ∙ (receives_lanes l (lane_of c.args.event.now) (OfEvent (entry c.draw_keeper-place.result c.args.event.now)) c.take_in.new.place.me.0.pass.lanes
-    ∙ (ap (λ (z : Sat). has_lane l z.0.pass.lanes) c.take_in.ensures.view
-    ∙ ap (λ (t : PassToken). has_lane l t.part.lanes) c.pass.view_is)))
+pub returns-clause-seat : goal.returns-clause-seat
+returns-clause-seat c = search rules
 
-pub returns-clause-gone : goal.returns-clause-gone
-returns-clause-gone c i other =
-    ap (λ (vs : List View). has_gone i (pass_in vs).lanes) c.give_off.ensures.pass
-    ∙ (ap (λ (z : Sat). has_gone i z.0.pass.lanes) c.draw_keeper-place.ensures.view
-    ∙ (receives_gone i (lane_of c.args.event.now) (OfEvent (entry c.draw_keeper-place.result c.args.event.now)) c.take_in.new.place.me.0.pass.lanes (event_gone i (entry c.draw_keeper-place.result c.args.event.now) other)
-    ∙ (ap (λ (z : Sat). has_gone i z.0.pass.lanes) c.take_in.ensures.view
-    ∙ ap (λ (t : PassToken). has_gone i t.part.lanes) c.pass.view_is)))
+pub returns-clause-pass : goal.returns-clause-pass
+returns-clause-pass c = search rules
 
-pub returns-clause-marked : goal.returns-clause-marked
-returns-clause-marked c block era is =
-    let after = ap (λ (z : Sat). has_mark block era (keeper_of z.0).state.entries) c.give_off.ensures.view
-    ∙ ap (λ (z : Sat). has_mark block era (keeper_of z.0).state.entries) c.draw_keeper-place.ensures.view in
-    after ∙ (has_mark-behind block era (keeper_of c.take_in.new.place.me.0).state.entries (entry c.draw_keeper-place.result c.args.event.now) ∙ rw is refl)
+pub returns-clause-floor : goal.returns-clause-floor
+returns-clause-floor c = search rules
+
+pub returns-clause-keeps : goal.returns-clause-keeps
+returns-clause-keeps c =
+    subst (KeepsPass 1 (λ id. is_go_of id c.args.event.now) c.args.pass.now) (sym (returns-clause-pass c)) (draw_keeps c.args.pass.now c.args.event.now c.draw_keeper-place.result (returns-clause-floor c).0 c.requires.pass.1)
+
+pub returns-clause-marks : goal.returns-clause-marks
+returns-clause-marks c =
+    subst (λ (t : KeeperToken). HasMarks c.args.event.now c.args.seat.now.part.state.entries t.part.state.entries) (sym (returns-clause-seat c)) (marks_drawn c.args.event.now c.args.seat.now.part.state.entries c.draw_keeper-place.result)

@@ -1,25 +1,15 @@
-use Rattle.std.proofs.Common.{List, ap, ◌∙◌}
-use Rattle.era_gate.specs.declared.parts.View.{View}
-use Rattle.era_gate.specs.declared.stays.Receipt.TheVariants.{OfEvent}
-use Rattle.era_gate.specs.Acts.{entry, lane_of}
-use Rattle.era_gate.specs.Parts.{has_lane, pass_in}
-use Rattle.era_gate.specs.Calls.{PassToken, has_gone}
-use Rattle.era_gate.specs.Plays.{Sat}
-use Rattle.era_gate.proofs.Passing.{receives_lanes, receives_gone, event_gone}
+use Rattle.std.proofs.Common.{rules, sym, subst}
+use Rattle.era_model.specs.Events.{is_go_of}
+use Rattle.era_gate.specs.Passes.{KeepsPass}
+use Rattle.era_gate.proofs.PassKept.{draw_keeps}
 use Rattle.era_gate.proofs.gate.Gate.draw_stripe.Goals as goal
 
-pub returns-clause-lanes : goal.returns-clause-lanes
-returns-clause-lanes c l =
-    ap (λ (vs : List View). has_lane l (pass_in vs).lanes) c.give_off.ensures.pass
-    ∙ (ap (λ (z : Sat). has_lane l z.0.pass.lanes) c.draw_stripe-place.ensures.view
-    ∙ (receives_lanes l (lane_of c.args.event.now) (OfEvent (entry c.draw_stripe-place.result c.args.event.now)) c.take_in.new.place.me.0.pass.lanes
-    ∙ (ap (λ (z : Sat). has_lane l z.0.pass.lanes) c.take_in.ensures.view
-    ∙ ap (λ (t : PassToken). has_lane l t.part.lanes) c.pass.view_is)))
+pub returns-clause-pass : goal.returns-clause-pass
+returns-clause-pass c = search rules
 
-pub returns-clause-gone : goal.returns-clause-gone
-returns-clause-gone c i other =
-    ap (λ (vs : List View). has_gone i (pass_in vs).lanes) c.give_off.ensures.pass
-    ∙ (ap (λ (z : Sat). has_gone i z.0.pass.lanes) c.draw_stripe-place.ensures.view
-    ∙ (receives_gone i (lane_of c.args.event.now) (OfEvent (entry c.draw_stripe-place.result c.args.event.now)) c.take_in.new.place.me.0.pass.lanes (event_gone i (entry c.draw_stripe-place.result c.args.event.now) other)
-    ∙ (ap (λ (z : Sat). has_gone i z.0.pass.lanes) c.take_in.ensures.view
-    ∙ ap (λ (t : PassToken). has_gone i t.part.lanes) c.pass.view_is)))
+pub returns-clause-floor : goal.returns-clause-floor
+returns-clause-floor c = search rules
+
+pub returns-clause-keeps : goal.returns-clause-keeps
+returns-clause-keeps c =
+    subst (KeepsPass 1 (λ id. is_go_of id c.args.event.now) c.args.pass.now) (sym (returns-clause-pass c)) (draw_keeps c.args.pass.now c.args.event.now c.draw_stripe-place.result (returns-clause-floor c).0 c.requires.pass.1)

@@ -1,14 +1,15 @@
-use Rattle.std.proofs.Common.{Bool, ◌||◌, List, sym, ap, ap₂, ◌∙◌}
-use Rattle.era_gate.specs.declared.parts.View.{View}
-use Rattle.era_gate.specs.Parts.{has_lane, pass_in}
+use Rattle.std.proofs.Common.{rules}
 use Rattle.era_gate.specs.Calls.{PassToken}
-use Rattle.era_gate.proofs.PassCuts.{both_sides}
+use Rattle.era_gate.specs.Passes.{AreCutAt}
+use Rattle.era_gate.proofs.PassKept.{lanes_cut, of_both}
 use Rattle.era_gate.proofs.gate.Gate.split_pass.Goals as goal
 
-pub returns-clause-lanes : goal.returns-clause-lanes
-returns-clause-lanes c l =
-    let left = ap (λ (vs : List View). has_lane l (pass_in vs).lanes) c.lanes_off-badge.ensures.pass in
-    let right = ap (λ (vs : List View). has_lane l (pass_in vs).lanes) c.lanes_off-badge.ensures.other in
-    sym (ap (λ (t : PassToken). has_lane l t.part.lanes) c.pass.view_is)
-    ∙ (both_sides c.args.first l (pass_in c.pass.inside.badge.views).lanes
-    ∙ sym (ap₂ (λ (a b : Bool). a || b) left right))
+pub returns-clause-pass : goal.returns-clause-pass
+returns-clause-pass c = search rules
+
+pub returns-clause-other : goal.returns-clause-other
+returns-clause-other c = search rules
+
+pub returns-clause-cut : goal.returns-clause-cut
+returns-clause-cut c =
+    of_both (λ (low high : PassToken). AreCutAt c.args.first c.args.pass.now.part.lanes low.part.lanes high.part.lanes) _ _ _ _ (returns-clause-pass c) (returns-clause-other c) (lanes_cut c.args.first c.args.pass.now.part.lanes)

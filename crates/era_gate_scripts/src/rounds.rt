@@ -3,13 +3,13 @@
 ghost use Rattle.std.specs.Prelude.{◌≡◌, ℕ, ◌+◌, ◌<◌, ◌≤◌, ◌^◌, ◌||◌, true, false, None, Some, IfSome, IfOk, All, length, [], ◌∷◌};
 ghost use Rattle.era_base.specs.declared.ids.CmdId.{CmdId as Command};
 ghost use Rattle.era_gate.specs.Acts.{found_of, flights};
-ghost use Rattle.era_gate.specs.Calls.{StripeToken, has_lane, has_gone, has_seen};
-ghost use Rattle.era_gate.specs.Rows.{IsWrite, MayGoRounds, WentRounds};
+ghost use Rattle.era_gate.specs.Calls.{has_lane, has_gone};
+ghost use Rattle.era_gate_scripts.specs.Rows.{IsNew, IsUsed, MayGoRounds, MayIssue, WentRounds};
 ghost use Rattle.era_model.specs.Events.{drawn_by};
 ghost use Rattle.era_model.specs.Writes.{is_writing};
 
-use crate::{Gate, KeeperSeat, Pass, Rolled, StripeSeat};
 use era_base::{Bytes, CmdId, Geometry, Memory};
+use era_gate::{Gate, KeeperSeat, Pass, Rolled, StripeSeat};
 use era_model::Event;
 use std::alloc::Global;
 use std::test::*;
@@ -27,9 +27,7 @@ fn mark(gate: &Gate, keeper: &mut KeeperSeat, pass: &mut Pass, era: u32) -> (u64
     ensures keeper { (keeper.new.table ≡ keeper.old.table)
         × (keeper.new.part.state.era ≡ keeper.old.part.state.era)
         × (keeper.new.part.state.switched ≡ true) }
-    ensures pass { (pass.new.table ≡ pass.old.table)
-        × (pass.new.part.budget + 2 ≡ pass.old.part.budget) }
-    ensures lanes { has_lane 0 pass.new.part.lanes ≡ true }
+    ensures pass { IsUsed 2 pass.old pass.new }
     ensures gone { (i : Command) → has_gone i pass.new.part.lanes ≡ has_gone i pass.old.part.lanes }
 {
     let tried = Event::Tried {
@@ -68,16 +66,9 @@ fn roll(gate: &Gate, keeper: &mut KeeperSeat, pass: &mut Pass) -> Rolled
 
 /// Issues a write to block 0, whose bit has to be seen.
 fn issue(gate: &Gate, seat: &mut StripeSeat, pass: &mut Pass, write: &Event) -> Option<u64>
-    requires tables { (seat.old.table ≡ gate.now.table) × (pass.old.table ≡ gate.now.table) }
-    requires seat { (seat.old.part.state.inside ≡ true) × (seat.old.part.state.flight ≡ None) }
-    requires write { IsWrite seat.old.part.era write.now }
-    requires pass { (has_lane 0 pass.old.part.lanes ≡ true) × (0 < pass.old.part.budget) }
-    requires fresh { (i : Command) → has_gone i pass.old.part.lanes ≡ false }
-    requires block { 0 < gate.now.plan.blocks }
+    requires { MayIssue gate.now seat.old pass.old write.now }
     ensures seat { (seat.new.table ≡ seat.old.table) × (seat.new.part.state.inside ≡ true) }
-    ensures pass { (pass.new.table ≡ pass.old.table)
-        × (pass.old.part.budget ≤ pass.new.part.budget + 1) }
-    ensures lanes { has_lane 0 pass.new.part.lanes ≡ true }
+    ensures pass { IsUsed 1 pass.old pass.new }
     ensures flight { IfSome result (λ place.
         is_writing (flights seat.new.part.state.flight) (drawn_by write.now) ≡ true) }
 {
@@ -95,9 +86,7 @@ fn finish(gate: &Gate, seat: &mut StripeSeat, pass: &mut Pass) -> u64
         ≡ true) }
     requires pass { (has_lane 0 pass.old.part.lanes ≡ true) × (0 < pass.old.part.budget) }
     ensures seat { (seat.new.table ≡ seat.old.table) × (seat.new.part.state.inside ≡ false) }
-    ensures pass { (pass.new.table ≡ pass.old.table)
-        × (pass.old.part.budget ≤ pass.new.part.budget + 1) }
-    ensures lanes { has_lane 0 pass.new.part.lanes ≡ true }
+    ensures pass { IsUsed 1 pass.old pass.new }
 {
     let done = Event::Done { id: ID };
     let place = gate.draw_stripe(seat, pass, &done);
@@ -114,21 +103,11 @@ fn begin(
     pass: &mut Pass,
     bytes: Bytes,
 ) -> (u32, bool, (u64, u64), Option<u64>)
-    requires tables { (keeper.old.table ≡ gate.now.table) × (seat.old.table ≡ gate.now.table)
-        × (pass.old.table ≡ gate.now.table) }
-    requires keeper { (1 ≡ keeper.old.part.state.era)
-        × (keeper.old.part.state.switched ≡ true) }
-    requires seat { (seat.old.part.state.inside ≡ false)
-        × (seat.old.part.state.flight ≡ None) }
-    requires pass { (has_lane 0 pass.old.part.lanes ≡ true) × (20 < pass.old.part.budget) }
-    requires fresh { (i : Command) → has_gone i pass.old.part.lanes ≡ false }
-    requires block { 0 < gate.now.plan.blocks }
-    ensures tables { (keeper.new.table ≡ gate.now.table) × (seat.new.table ≡ gate.now.table)
-        × (pass.new.table ≡ gate.now.table) }
-    ensures keeper { (keeper.new.part.state.era ≡ 1)
-        × (keeper.new.part.state.switched ≡ true) }
-    ensures seat { seat.new.part.state.inside ≡ true }
-    ensures pass { (has_lane 0 pass.new.part.lanes ≡ true) × (9 < pass.new.part.budget) }
+    requires { IsNew gate.now keeper.old seat.old pass.old }
+    ensures keeper { (keeper.new.table ≡ keeper.old.table)
+        × (keeper.new.part.state.era ≡ 1) × (keeper.new.part.state.switched ≡ true) }
+    ensures seat { (seat.new.table ≡ seat.old.table) × (seat.new.part.state.inside ≡ true) }
+    ensures pass { IsUsed 3 pass.old pass.new }
     ensures flight { IfSome result.3 (λ place. is_writing (flights seat.new.part.state.flight)
         (record { lane = 0; number = 0 }) ≡ true) }
 {
@@ -148,19 +127,9 @@ fn begin(
 
 /// The gate for the rows: 64 blocks, era 1, two stripes.
 fn small_gate(alloc: Global) -> Result<(Gate, KeeperSeat, (StripeSeat, StripeSeat), Pass), Memory>
-    ensures tables { IfOk result (λ r. (r.1.table ≡ r.0.table) × (r.2.0.table ≡ r.0.table)
-        × (r.2.1.table ≡ r.0.table) × (r.3.table ≡ r.0.table)) }
-    ensures plan { IfOk result (λ r. (0 < r.0.plan.blocks) × (r.0.plan.stripes ≡ 2)) }
-    ensures keeper { IfOk result (λ r. (1 ≡ r.1.part.state.era)
-        × (r.1.part.state.switched ≡ true)) }
-    ensures one { IfOk result (λ r. (r.2.0.part.state.inside ≡ false)
-        × (r.2.0.part.state.flight ≡ None)) }
-    ensures two { IfOk result (λ r. (r.2.1.part.state.inside ≡ false)
-        × (r.2.1.part.state.flight ≡ None)) }
-    ensures pass { IfOk result (λ r. (has_lane 0 r.3.part.lanes ≡ true)
-        × (9999 < r.3.part.budget)) }
-    ensures lanes { IfOk result (λ r. (l : ℕ) → l < 65 → has_lane l r.3.part.lanes ≡ true) }
-    ensures fresh { IfOk result (λ r. (i : Command) → has_gone i r.3.part.lanes ≡ false) }
+    ensures one { IfOk result (λ r. IsNew r.0 r.1 r.2.0 r.3) }
+    ensures two { IfOk result (λ r. (r.2.1.table ≡ r.0.table)
+        × (r.2.1.part.state.inside ≡ false) × (r.2.1.part.state.flight ≡ None)) }
 {
     let Ok(geometry) = Geometry::new(512, 8) else {
         return Err(Memory);
@@ -213,10 +182,9 @@ fn halves(gate: &Gate, pass: &mut Pass) -> Pass
     requires budget { 2000 ≤ pass.old.part.budget }
     requires lanes { (l : ℕ) → l < 65 → has_lane l pass.old.part.lanes ≡ true }
     ensures tables { (pass.new.table ≡ gate.now.table) × (result.table ≡ gate.now.table) }
-    ensures first { has_lane 0 pass.new.part.lanes ≡ true }
-    ensures second { has_lane 1 result.part.lanes ≡ true }
-    ensures budgets { (1000 ≤ pass.new.part.budget) × (1000 ≤ result.part.budget)
-        × (pass.new.part.budget + result.part.budget ≡ pass.old.part.budget) }
+    ensures sides { (has_lane 0 pass.new.part.lanes ≡ true)
+        × (has_lane 1 result.part.lanes ≡ true) }
+    ensures budgets { (1000 ≤ pass.new.part.budget) × (1000 ≤ result.part.budget) }
     ensures lanes { (l : ℕ) → has_lane l pass.old.part.lanes
         ≡ (has_lane l pass.new.part.lanes || has_lane l result.part.lanes) }
 {
@@ -253,7 +221,6 @@ fn both<R: Threads + Sync>(
 fn rejoin(gate: &Gate, pass: &mut Pass, other: Pass)
     requires tables { (pass.old.table ≡ gate.now.table) × (other.table ≡ gate.now.table) }
     ensures table { pass.new.table ≡ gate.now.table }
-    ensures budget { pass.new.part.budget ≡ pass.old.part.budget + other.part.budget }
     ensures lanes { (l : ℕ) → has_lane l pass.new.part.lanes
         ≡ (has_lane l pass.old.part.lanes || has_lane l other.part.lanes) }
 {
@@ -280,8 +247,7 @@ fn end(
 #[test]
 fn row_on_one_thread(rt: HostRuntime) -> Result<(), Fail> {
     let alloc = rt.alloc();
-    let (gate, mut keeper, seats, mut pass) = small_gate(alloc)?;
-    let mut seat = seats.0;
+    let (gate, mut keeper, (mut seat, other), mut pass) = small_gate(alloc)?;
     let bytes = Bytes::from_slice(alloc, &[7; 512])?;
     let (era, before, marked, issued) = begin(&gate, &mut keeper, &mut seat, &mut pass, bytes);
     assert!(rt; era == 1 && !before && marked == (0, 1) && issued == Some(2));
@@ -294,6 +260,7 @@ fn row_on_one_thread(rt: HostRuntime) -> Result<(), Fail> {
     assert!(rt; moved == Rolled::Moved(2));
     let switched = Event::Roll { id: ID, era: 2 };
     assert!(rt; gate.draw_keeper(&mut keeper, &mut pass, &switched) == 5);
+    assert!(rt; end(gate, alloc, keeper, (seat, other), pass)? == 6);
     Ok(())
 }
 

@@ -1,6 +1,6 @@
 use Rattle.std.proofs.Common.{◌≡◌, ℕ, ◌+◌, ◌≤◌, true, false, None}
 use Rattle.era_gate.specs.Calls.{has_lane}
-use Rattle.era_gate.proofs.tests.rounds.Given as goal
+use Rattle.era_gate_scripts.proofs.rounds.rounds.Given as goal
 
 abbrev pub invariant-loop-number : goal.invariant-loop-number
 invariant-loop-number l =

@@ -1,0 +1,2 @@
+-- What the rows of the gate ask and tell.
+pub mod Rows
