@@ -1,0 +1,10 @@
+pub mod Windows
+pub mod Splices
+pub mod Offsets
+pub mod Held
+pub mod Drawn
+pub mod FlightLists
+pub mod OwnFlights
+pub mod OwnNotes
+pub mod KeeperWords
+pub mod KeeperRecovers
