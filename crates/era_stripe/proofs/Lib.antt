@@ -1,0 +1,9 @@
+pub mod Views
+pub mod Issued
+pub mod ReadBack
+pub mod ReadCalls
+pub mod StripeSteps
+pub mod WriteStands
+pub mod SettleStands
+pub mod Starts
+pub mod Leaves
