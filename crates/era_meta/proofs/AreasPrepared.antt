@@ -60,7 +60,7 @@ order-of blocks above below (set ∷ sets) (archived ∷ archive) are has = (
   subst (λ (era : ℕ). EraOrder era below archive) (sym has.0) (order-of blocks set.era below sets archive are.3 has.1),
 )
 
-length-sets : (sets : List ArchivedSet) (archive : List Archived) → HasSets sets archive → length archive ≡ length sets
+pub length-sets : (sets : List ArchivedSet) (archive : List Archived) → HasSets sets archive → length archive ≡ length sets
 length-sets [] [] has = refl
 length-sets [] (archived ∷ archive) has = absurd has
 length-sets (set ∷ sets) [] has = absurd has

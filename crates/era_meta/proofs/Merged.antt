@@ -34,7 +34,7 @@ merged-is set old new size entries =
     entries block within
     ∙ sym (entry-from set 0 old block within ∙ ap (λ (at : ℕ). if has set.blocks at then set.era else get_or old block 0) (let e : 0 + block ≡ block = omega arith in e)))
 
-bit-of-page : (words : List ℕ) (page bit : ℕ) → bit < 1024 → bit_of_words (take 16 (drop (16 * page) words)) bit ≡ bit_of_words words (1024 * page + bit)
+pub bit-of-page : (words : List ℕ) (page bit : ℕ) → bit < 1024 → bit_of_words (take 16 (drop (16 * page) words)) bit ≡ bit_of_words words (1024 * page + bit)
 bit-of-page words page bit lt =
     let word : (1024 * page + bit) / 64 ≡ 16 * page + bit / 64 = omega arith in
     let rest : (1024 * page + bit) % 64 ≡ bit % 64 = omega arith in

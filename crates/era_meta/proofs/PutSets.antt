@@ -139,7 +139,7 @@ set-era (set ∷ sets) [] index s d lt has = absurd has
 set-era (set ∷ sets) (archived ∷ archive) zero s d lt has = has.0
 set-era (set ∷ sets) (archived ∷ archive) (suc index) s d lt has = set-era sets archive index s d (omega arith) has.1
 
-say-push : (sets : List ArchivedSet) (said : List ArchivedPages) (set : ArchivedSet) (one : ArchivedPages) → SaySets sets said → one.era ≡ set.era
+pub say-push : (sets : List ArchivedSet) (said : List ArchivedPages) (set : ArchivedSet) (one : ArchivedPages) → SaySets sets said → one.era ≡ set.era
     → SayFlags set.blocks one.pages → SaySets (sets ++ set ∷ []) (said ++ one ∷ [])
 say-push [] [] set one says era flags = (era, flags, tt)
 say-push [] (other ∷ said) set one says era flags = absurd says

@@ -63,7 +63,7 @@ whole-sets page blocks above below (set ∷ sets) (archived ∷ archive) are say
     (whole-flags blocks set.blocks (map page archived.pages) are.2 say.1, whole-sets page blocks set.era below sets archive are.3 say.2)
 
 -- a root of marks has their limit of entries
-same-limit : (sets : List ArchivedSet) (archive : List Archived) (era era' : ℕ) → HasSets sets archive → era ≡ era' → entry_limit sets era' ≡ root_limit archive era
+pub same-limit : (sets : List ArchivedSet) (archive : List Archived) (era era' : ℕ) → HasSets sets archive → era ≡ era' → entry_limit sets era' ≡ root_limit archive era
 same-limit [] [] era era' has same = ap (λ (n : ℕ). n - 1) (sym same)
 same-limit [] (archived ∷ archive) era era' has same = absurd has
 same-limit (set ∷ sets) [] era era' has same = absurd has

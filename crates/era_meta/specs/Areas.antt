@@ -69,10 +69,10 @@ pub record IsNumbered (first : ℕ) (sets : List ArchivedSet) (root : RootFields
   pub current : root.current ≡ numbers_from (first + array_pages_of (blocks_of_root root)) (bit_pages_of (blocks_of_root root))
   pub archive : root.archive ≡ archived_from (first + array_pages_of (blocks_of_root root) + bit_pages_of (blocks_of_root root)) (bit_pages_of (blocks_of_root root)) sets
 
--- The lists of a root, and the spare lists beside it, are as long as a geometry's pages, and there are no more of the sets' than those of two roots.
+-- The lists of a root, and the spare lists beside it, are as long as a geometry's pages, and there are no more of the sets' than those of three roots: the committed one, the next one and the held one.
 pub record HasPageLists (blocks : ℕ) (root : RootFields) (lists : List (List ℕ)) : Type 0 where
   pub array : length root.array ≡ array_pages_of blocks
   pub current : length root.current ≡ bit_pages_of blocks
   pub sets : AllByRecursion (λ set. length set.pages ≡ bit_pages_of blocks) root.archive
   pub spare : AllByRecursion (λ pages. length pages ≡ bit_pages_of blocks) lists
-  pub count : length root.archive + length lists ≤ 2 * MOST_SETS
+  pub count : length root.archive + length lists ≤ 3 * MOST_SETS

@@ -1,11 +1,13 @@
 -- What the calls that put pages and commit roots did, over the slots. A definition takes the members of the disk's trait, as `D.Disk`.
-use Rattle.std.specs.Prelude.{◌≡◌, ℕ, ◌+◌, ◌*◌, ◌<◌, ◌≤◌, true, List, length, Option, nat_lt, slice_index}
+use Rattle.std.specs.Prelude.{◌≡◌, ℕ, ◌+◌, ◌*◌, ◌<◌, ◌≤◌, true, false, List, length, Option, nat_lt, slice_index}
 use Rattle.era_base.specs.CrashModel.{State, Went, Leaves}
 use Rattle.era_base.specs.declared.disk.Disk.{Ghosts}
+use Rattle.era_base.specs.Calls.{Now, SameDisk}
 use Rattle.era_base.specs.Geometry.{need_of}
 use Rattle.era_layout.specs.Root.{RootFields}
 use Rattle.era_slots.specs.declared.slots.Slots.{Slots}
 use Rattle.era_slots.specs.Slot.{other, page_of}
+use Rattle.era_slots.specs.Calls.{StandFor, SameSlots}
 use Rattle.era_meta.specs.Content.{blocks_of_root}
 use Rattle.era_meta.specs.Meaning.{Meaning, IsImageOf}
 use Rattle.era_meta.specs.Keeping.{stored_in, Keeps, IsLeft, LeavesEither}
@@ -15,6 +17,22 @@ use Rattle.era_meta.specs.Putting.{MayCommit}
 pub record CanHold (sectors block : ℕ) : Type 0 where
   pub behind : 2 ≤ block
   pub within : block * 8 + 8 ≤ sectors
+
+-- Pages may be put, and a root committed behind them: the slots stand on their disk, and the gate of the next commit is known to be closed.
+pub record HasClosedGate {D : Type 0} (disk : Ghosts D) (slots : Slots D) : Type 0 where
+  pub stands : Now disk (StandFor slots) slots.disk
+  pub begun : slots.may_be_open ≡ false
+
+-- The slots stand on their disk as before, with the same next commit.
+pub record KeepsSlots {D : Type 0} (disk : Ghosts D) (old new : Slots D) : Type 0 where
+  pub stands : Now disk (StandFor new) new.disk
+  pub same : SameSlots old new
+  pub device : SameDisk disk old.disk new.disk
+
+-- The slots stand on their disk, which has its place and its size.
+pub record StillStand {D : Type 0} (disk : Ghosts D) (old new : Slots D) : Type 0 where
+  pub stands : Now disk (StandFor new) new.disk
+  pub device : SameDisk disk old.disk new.disk
 
 -- Each of these blocks has, as the disk is read, the page of a source with its index.
 abbrev pub HavePages : {P : Type 0} → (P → ℕ → List ℕ → Type 0) → P → List ℕ → State → Type 0

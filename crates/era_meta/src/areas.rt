@@ -9,19 +9,19 @@ ghost use Rattle.era_base.specs.declared.limits.TheConstants.{MOST_SETS};
 ghost use Rattle.era_layout.specs.Root.{fields_of, pages_of, IsValidRoot};
 ghost use Rattle.era_model.specs.Marks.{BlockMarks};
 ghost use Rattle.era_model.specs.Validity.{AreValidMarks};
-ghost use Rattle.era_meta.specs.Areas.{archived_from, held_fields, IsOutside, IsLeastFreeArea, HasFreeArea, LieInAnArea, LieInAreas, TakesLeastArea, IsNumbered, HasPageLists};
+ghost use Rattle.era_meta.specs.Areas.{archived_from, held_fields, IsOutside, IsLeastFreeArea, HasFreeArea, IsNumbered, HasPageLists};
 ghost use Rattle.era_meta.specs.Content.{blocks_of_root};
 ghost use Rattle.era_meta.specs.Keeping.{HasRoom};
 ghost use Rattle.era_meta.specs.Meaning.{reached};
-ghost use Rattle.era_meta.specs.Putting.{ArePagesFresh};
+ghost use Rattle.era_meta.specs.Placing.{IsPlaced};
 ghost use Rattle.era_meta.specs.SaysMarks.{IsRootFor};
 
 use crate::live_set::LiveSet;
 use era_base::{Geometry, MOST_SETS, ReservedList};
 use era_layout::{ArchiveList, Archived, PageList, Root, renumber};
 
-/// Lists of pages for sets: as many as two roots have.
-const LISTS: usize = 2 * MOST_SETS as usize;
+/// Lists of pages for sets: as many as the committed root, the next one and the held one have.
+const LISTS: usize = 3 * MOST_SETS as usize;
 
 /// Lists of pages that no root has now, for sets that are archived later.
 pub type SpareLists = ReservedList<PageList, { LISTS }>;
@@ -106,8 +106,8 @@ fn free_area(root: &Root, held: Option<&Root>) -> u32
 }
 
 /// Puts the lists of pages of all archived sets behind the spare ones, and leaves no set. It takes no memory.
-fn release_lists(archive: &mut ArchiveList, spare: &mut SpareLists)
-    requires { length archive.old + length spare.old ≤ 2 * MOST_SETS }
+pub(crate) fn release_lists(archive: &mut ArchiveList, spare: &mut SpareLists)
+    requires { length archive.old + length spare.old ≤ 3 * MOST_SETS }
     ensures archive { archive.new ≡ [] }
     ensures spare { spare.new ≡ spare.old ++ map (λ set. set.pages) archive.old }
 {
@@ -183,22 +183,15 @@ pub fn prepare(
         (reached (fields_of root.now) (held_fields (option_copied held))) }
     requires lists { HasPageLists (blocks_of_root (fields_of root.now)) (fields_of next.old)
         spare.old }
-    requires enough { length sets.now ≤ length next.old.archive + length spare.old }
-    requires count { length sets.now ≤ MOST_SETS }
+    requires sets { (length sets.now ≤ length next.old.archive + length spare.old)
+        × (length sets.now ≤ MOST_SETS) }
     ensures marks { (m : BlockMarks) → root.now.geometry.sectors ≡ m.sectors
         → root.now.geometry.block_sectors ≡ m.block_sectors → era ≡ m.era → sets.now ≡ m.archive
         → IsRootFor (fields_of next.new) m }
     ensures valid { (m : BlockMarks) → AreValidMarks m → IsRootFor (fields_of next.new) m
         → IsValidRoot (fields_of next.new) }
-    ensures area { TakesLeastArea (blocks_of_root (fields_of root.now))
-        (reached (fields_of root.now) (held_fields (option_copied held.entry)))
-        (fields_of next.new) }
-    ensures fresh { ArePagesFresh (pages_of (fields_of next.new)) (fields_of root.now)
-        (fields_of next.new) (held_fields (option_copied held.entry)) }
-    ensures lies { LieInAnArea (blocks_of_root (fields_of next.new))
-        (pages_of (fields_of next.new)) }
-    ensures areas { LieInAreas (fields_of root.now) (held_fields (option_copied held.entry))
-        → LieInAreas (fields_of next.new) (held_fields (option_copied held.entry)) }
+    ensures placed { IsPlaced (fields_of root.now) (fields_of next.new)
+        (held_fields (option_copied held.entry)) }
     ensures room { (now : State) → HasRoom (fields_of root.now) now
         → HasRoom (fields_of next.new) now }
     ensures lists { HasPageLists (blocks_of_root (fields_of next.new)) (fields_of next.new)

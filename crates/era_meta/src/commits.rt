@@ -1,11 +1,11 @@
 //! A commit of a root.
 
-ghost use Rattle.std.specs.Prelude.{◌≡◌, ◌<◌, ◌≤◌, ◌-◌, ◌^◌, false, OnOk, OnErr};
-ghost use Rattle.era_base.specs.Calls.{Now, MakesCalls, SameDisk};
+ghost use Rattle.std.specs.Prelude.{◌<◌, ◌≤◌, ◌-◌, ◌^◌, OnOk, OnErr};
+ghost use Rattle.era_base.specs.Calls.{MakesCalls};
 ghost use Rattle.era_base.specs.Faults.{HasCount};
 ghost use Rattle.era_layout.specs.Root.{fields_of, IsValidRoot};
-ghost use Rattle.era_slots.specs.Calls.{StandFor, KeepsTarget};
-ghost use Rattle.era_meta.specs.Stored.{CommitsRoot, HasCommittedRoot, FailsToCommit, TakesNextSlot};
+ghost use Rattle.era_slots.specs.Calls.{KeepsTarget};
+ghost use Rattle.era_meta.specs.Stored.{CommitsRoot, FailsToCommit, HasClosedGate, HasCommittedRoot, StillStand, TakesNextSlot};
 
 use era_base::Disk;
 use era_layout::laws::bytes_are_of_one_root;
@@ -20,17 +20,15 @@ use era_slots::laws::{
 /// gate may be open. It takes no memory.
 pub fn commit_root<D: Disk>(slots: &mut Slots<D>, next: &Root) -> Result<(), u64>
     requires room { 24 ≤ D.sectors slots.old.disk }
-    requires begun { (slots.old.may_be_open ≡ false) × (slots.old.number < 2 ^ 63 - 1) }
-    requires stands { Now D.Disk (StandFor slots.old) slots.old.disk }
+    requires ready { HasClosedGate D.Disk slots.old × (slots.old.number < 2 ^ 63 - 1) }
     requires valid { IsValidRoot (fields_of next.now) }
     ensures moments { CommitsRoot D.Disk (fields_of next.now) slots.old slots.new }
-    ensures stands { Now D.Disk (StandFor slots.new) slots.new.disk }
-    ensures ok { OnOk result (HasCommittedRoot D.Disk (fields_of next.now) slots.old slots.new) }
-    ensures err { OnErr result (FailsToCommit D.Disk (fields_of next.now) slots.old slots.new) }
-    ensures next { OnOk result (TakesNextSlot slots.old slots.new)
-        × OnErr result (KeepsTarget slots.old slots.new) }
-    ensures calls { OnOk result (MakesCalls D.Disk 4 slots.old.disk slots.new.disk) }
-    ensures disk { SameDisk D.Disk slots.old.disk slots.new.disk }
+    ensures keeps { StillStand D.Disk slots.old slots.new }
+    ensures ok { OnOk result (HasCommittedRoot D.Disk (fields_of next.now) slots.old slots.new
+        × TakesNextSlot slots.old slots.new
+        × MakesCalls D.Disk 4 slots.old.disk slots.new.disk) }
+    ensures err { OnErr result (FailsToCommit D.Disk (fields_of next.now) slots.old slots.new
+        × KeepsTarget slots.old slots.new) }
     ensures cause { HasCount (D.faults slots.old.disk) (D.faults slots.new.disk) result }
 {
     page_on_the_disk_is_left();

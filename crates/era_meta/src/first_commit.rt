@@ -1,9 +1,9 @@
 //! The first commit on a blank disk.
 
-ghost use Rattle.std.specs.Prelude.{◌≡◌, ◌≤◌, false, None, OnOk};
-ghost use Rattle.era_base.specs.Calls.{EachMoment, Now, SameDisk};
+ghost use Rattle.std.specs.Prelude.{◌≡◌, ◌+◌, ◌≤◌, false, None, length, OnOk};
+ghost use Rattle.era_base.specs.Calls.{EachMoment, MakesCalls, Now, SameDisk};
 ghost use Rattle.era_base.specs.Faults.{HasCount};
-ghost use Rattle.era_layout.specs.Root.{fields_of, IsValidRoot};
+ghost use Rattle.era_layout.specs.Root.{fields_of, pages_of, IsValidRoot};
 ghost use Rattle.era_slots.specs.Calls.{StandFor, AtEnd};
 ghost use Rattle.era_slots.specs.Opening.{AreBlank};
 ghost use Rattle.era_meta.specs.Formatting.{marks_alone, LeavesBlankOr, MayBeFirst};
@@ -30,8 +30,9 @@ fn commit_first<D: Disk>(slots: &mut Slots<D>, next: &Root) -> Result<(), u64>
     ensures moments { EachMoment D.Disk
         (λ before now. LeavesBlankOr (stored_in before (fields_of next.now) None) now)
         slots.old.disk slots.new.disk }
-    ensures ok { OnOk result ((slots.new.number ≡ 1) × AtEnd D.Disk (λ before now.
-        IsStoredRoot slots.new (fields_of next.now) None
+    ensures ok { OnOk result ((slots.new.number ≡ 1)
+        × MakesCalls D.Disk 4 slots.old.disk slots.new.disk
+        × AtEnd D.Disk (λ before now. IsStoredRoot slots.new (fields_of next.now) None
         (stored_in before (fields_of next.now) None) now) slots.old.disk slots.new.disk) }
     ensures disk { SameDisk D.Disk slots.old.disk slots.new.disk }
     ensures cause { HasCount (D.faults slots.old.disk) (D.faults slots.new.disk) result }
@@ -44,8 +45,8 @@ fn commit_first<D: Disk>(slots: &mut Slots<D>, next: &Root) -> Result<(), u64>
     slots.commit(&body)
 }
 
-/// Puts all pages of a root of these marks on a blank disk, and commits it with the number 1. The error is the disk's
-/// count of faults, which rose. It takes no memory.
+/// Puts all pages of a root of these marks on a blank disk (a write each), and commits it with the number 1 (two writes
+/// and two syncs). The error is the disk's count of faults, which rose. It takes no memory.
 pub fn store_first<D: Disk>(slots: &mut Slots<D>, next: &Root, marks: &LiveMarks) -> Result<(), u64>
     requires blank { AreBlank slots.old × Now D.Disk (StandFor slots.old) slots.old.disk }
     requires room { HasBlocks (fields_of next.now) (D.sectors slots.old.disk) }
@@ -53,8 +54,10 @@ pub fn store_first<D: Disk>(slots: &mut Slots<D>, next: &Root, marks: &LiveMarks
         × (next.now.held ≡ false) }
     ensures moments { EachMoment D.Disk (λ before. LeavesBlankOr (marks_alone marks.now))
         slots.old.disk slots.new.disk }
-    ensures ok { OnOk result ((slots.new.number ≡ 1) × Now D.Disk
-        (IsStoredRoot slots.new (fields_of next.now) None (marks_alone marks.now))
+    ensures ok { OnOk result ((slots.new.number ≡ 1)
+        × MakesCalls D.Disk (length (pages_of (fields_of next.now)) + 4)
+        slots.old.disk slots.new.disk
+        × Now D.Disk (IsStoredRoot slots.new (fields_of next.now) None (marks_alone marks.now))
         slots.new.disk) }
     ensures disk { SameDisk D.Disk slots.old.disk slots.new.disk }
     ensures cause { HasCount (D.faults slots.old.disk) (D.faults slots.new.disk) result }

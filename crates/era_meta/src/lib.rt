@@ -2,29 +2,53 @@
 #![tactic(auto)]
 
 mod areas;
+mod array_reading;
+mod as_runs;
 mod commits;
+mod copies;
+pub mod damage_laws;
+mod digest;
+pub mod digest_laws;
+mod dropped_set;
+mod finding;
 mod first_commit;
+mod held_stores;
+mod last_marked;
 pub mod laws;
+mod lists;
+mod live_digest;
 mod live_marks;
 mod live_set;
+mod marks_reading;
 mod merging;
 mod metadata;
 pub mod page_laws;
 mod page_source;
 mod pages;
+mod refusal;
+mod roots_reading;
 mod set_pages;
+mod set_reading;
+mod snapshot;
+mod snapshots;
 mod stores;
+mod usage;
 
 pub use areas::{SpareLists, prepare};
+pub use array_reading::read_array;
 pub use commits::commit_root;
+pub use finding::Finding;
 pub use first_commit::store_first;
 pub use live_marks::LiveMarks;
 pub use live_set::LiveSet;
+pub use marks_reading::read_marks;
 pub use metadata::Meta;
 pub use page_source::PageSource;
 pub use pages::put_pages;
+pub use refusal::{MetaError, MetaRefusal};
+pub use roots_reading::{decode_roots, read_held_root};
 pub use set_pages::put_root;
+pub use set_reading::{read_archive, read_set};
+pub use snapshot::Snapshot;
 pub use stores::store_marks;
-
-#[cfg(test)]
-mod tests;
+pub use usage::used_blocks;

@@ -1,17 +1,19 @@
 //! The marks in memory. All memory for them is taken at once, so that a mark and an era switch take none.
 
-ghost use Rattle.std.specs.Prelude.{◌≡◌, ◌<◌, slice_set};
+ghost use Rattle.std.specs.Prelude.{◌≡◌, ◌<◌, length, slice_set, IfOk};
+ghost use Rattle.std.specs.List.{AllByRecursion};
 ghost use Rattle.era_base.specs.Flags.{has};
-ghost use Rattle.era_base.specs.declared.limits.TheConstants.{LAST_ERA};
-ghost use Rattle.era_model.specs.Marks.{blocks_of_marks, rolled, with_block};
+ghost use Rattle.era_base.specs.declared.limits.TheConstants.{LAST_ERA, MOST_SETS};
+ghost use Rattle.era_model.specs.Marks.{blocks_of_marks, no_marks, rolled, with_block};
 ghost use Rattle.era_model.specs.Validity.{AreValidMarks};
 
 use crate::live_set::LiveSet;
 use crate::merging::{ROOM, take_set};
 use era_array::EraArray;
-use era_base::{Geometry, ReservedList};
+use era_base::{Geometry, Memory, ReservedList};
 use era_model::{mark_gives_last_era, switch_keeps_last_eras};
 use era_sets::BitSet;
+use std::alloc::Global;
 use std::marker::Model;
 use std::mem;
 
@@ -53,7 +55,39 @@ impl Model for LiveMarks {
         m.spare };
 }
 
+/// As many sets as can be archived, without blocks.
+fn spare_sets(alloc: Global, blocks: u32) -> Result<ReservedList<LiveSet, { ROOM }>, Memory>
+    ensures count { IfOk result (λ sets. length sets ≡ MOST_SETS) }
+    ensures sizes { IfOk result (AllByRecursion (λ set. length set.blocks ≡ blocks)) }
+{
+    let mut sets = ReservedList::with_room(alloc)?;
+    for _ in 0..ROOM {
+        sets.push_reserved(LiveSet::new(0, BitSet::new(alloc, blocks)?));
+    }
+    Ok(sets)
+}
+
 impl LiveMarks {
+    /// No marks, in era 1. It takes the memory for all marks that follow.
+    pub fn new(alloc: Global, geometry: &Geometry) -> Result<LiveMarks, Memory>
+        ensures { IfOk result (λ marks. marks
+            ≡ no_marks geometry.now.sectors geometry.now.block_sectors 1) }
+    {
+        let blocks = geometry.blocks();
+        let array = EraArray::new(alloc, blocks)?;
+        let current = BitSet::new(alloc, blocks)?;
+        let archive = ReservedList::with_room(alloc)?;
+        let spare = spare_sets(alloc, blocks)?;
+        Ok(LiveMarks {
+            geometry: *geometry,
+            era: 1,
+            array,
+            current,
+            archive,
+            spare,
+        })
+    }
+
     /// The marks are valid, whatever was done with them.
     pub fn are_valid(&self)
         ensures { AreValidMarks self.now }

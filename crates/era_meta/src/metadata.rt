@@ -1,16 +1,16 @@
 //! The metadata of an origin: marks in memory, and on a disk what they were when they were stored last.
 
-ghost use Rattle.std.specs.Prelude.{◌≡◌, ◌-◌, ◌<◌, ◌^◌, true, false, OnOk, OnErr};
-ghost use Rattle.era_base.specs.Calls.{EachMoment, Now, SameDisk};
+ghost use Rattle.std.specs.Prelude.{◌≡◌, ◌<◌, true, false, OnOk, OnErr};
+ghost use Rattle.era_base.specs.Calls.{EachMoment, Now};
 ghost use Rattle.era_base.specs.Faults.{HasCount};
 ghost use Rattle.era_base.specs.declared.limits.TheConstants.{LAST_ERA};
 ghost use Rattle.era_model.specs.Marks.{blocks_of_marks, rolled, with_block};
-ghost use Rattle.era_slots.specs.Calls.{AtEnd};
 
 use crate::areas::{SpareLists, prepare};
 use crate::laws::kept_disk_leaves_its_meanings;
 use crate::live_marks::LiveMarks;
 use crate::page_laws::two_roots_leave_an_area;
+use crate::snapshot::Snapshot;
 use crate::stores::store_marks;
 use era_base::Disk;
 use era_layout::Root;
@@ -28,8 +28,8 @@ pub struct Meta<D> {
     pub root: Root,
     /// Room for the next root.
     pub next: Root,
-    /// The snapshot's root, if one is held.
-    pub held: Option<Root>,
+    /// The snapshot, or room for one.
+    pub snapshot: Snapshot,
     /// Lists of pages that neither root has now.
     pub spare: SpareLists,
     /// Whether the marks in memory are one era switch ahead of what is stored.
@@ -37,29 +37,25 @@ pub struct Meta<D> {
 }
 
 impl<D: Disk> Meta<D> {
-    ghost use Rattle.era_meta.specs.InMemory.{FitTogether, KeepsMeta, MetaStands, MetaStores, HasStored, StillStores, LeavesMeanings};
+    ghost use Rattle.era_meta.specs.InMemory.{FitTogether, MetaStands, MetaStores, LeavesMeanings};
+    ghost use Rattle.era_meta.specs.MetaCalls.{CanStore, CommitsMarks, FailsToCommitMarks, HasNumbersLeft, IsInMemory, IsReady, IsStanding, KeepsSnapshot};
 
     /// Stores the marks in memory as a whole root of new pages.
-    fn store_live(&mut self) -> Result<(), u64>
-        requires below { self.old.slots.number < 2 ^ 63 - 1 }
-        requires fit { FitTogether D.Disk self.old }
-        requires keeps { Now D.Disk (KeepsMeta self.old) self.old.slots.disk }
+    pub(crate) fn store_live(&mut self) -> Result<(), u64>
+        requires can { CanStore D.Disk self.old }
         ensures moments { EachMoment D.Disk (MetaStores self.old self.old.marks)
             self.old.slots.disk self.new.slots.disk }
         ensures fit { FitTogether D.Disk self.new }
-        ensures ok { OnOk result (AtEnd D.Disk (HasStored self.old self.old.marks self.new)
-            self.old.slots.disk self.new.slots.disk) }
-        ensures err { OnErr result (AtEnd D.Disk (StillStores self.old self.old.marks self.new)
-            self.old.slots.disk self.new.slots.disk) }
-        ensures memory { (self.new.marks ≡ self.old.marks)
-            × (self.new.unstored ≡ self.old.unstored) }
-        ensures disk { SameDisk D.Disk self.old.slots.disk self.new.slots.disk }
+        ensures ok { OnOk result (CommitsMarks D.Disk self.old self.old.marks self.new) }
+        ensures err { OnErr result (FailsToCommitMarks D.Disk self.old self.old.marks self.new) }
+        ensures memory { IsInMemory self.new self.old.marks self.old.unstored }
+        ensures same { KeepsSnapshot D.Disk self.old self.new }
         ensures cause { HasCount (D.faults self.old.slots.disk) (D.faults self.new.slots.disk)
             result }
     {
         two_roots_leave_an_area();
         self.marks.are_valid();
-        let held = self.held.as_ref();
+        let held = self.snapshot.held_root();
         let era = self.marks.era();
         prepare(
             &mut self.next,
@@ -93,21 +89,16 @@ impl<D: Disk> Meta<D> {
     /// Stores the marks in memory. The error is the disk's count of faults, which rose; then what is stored is as before.
     /// It takes no memory.
     pub fn store(&mut self) -> Result<(), u64>
-        requires below { self.old.slots.number < 2 ^ 63 - 1 }
-        requires fit { FitTogether D.Disk self.old }
-        requires stands { Now D.Disk (MetaStands self.old) self.old.slots.disk }
+        requires below { HasNumbersLeft self.old }
+        requires standing { IsStanding D.Disk self.old }
         ensures moments { EachMoment D.Disk (MetaStores self.old self.old.marks)
             self.old.slots.disk self.new.slots.disk }
-        ensures fit { FitTogether D.Disk self.new }
-        ensures stands { Now D.Disk (MetaStands self.new) self.new.slots.disk }
-        ensures ok { OnOk result (AtEnd D.Disk (HasStored self.old self.old.marks self.new)
-            self.old.slots.disk self.new.slots.disk) }
-        ensures err { OnErr result (AtEnd D.Disk (StillStores self.old self.old.marks self.new)
-            self.old.slots.disk self.new.slots.disk) }
-        ensures memory { (self.new.marks ≡ self.old.marks)
-            × OnOk result (self.new.unstored ≡ false)
-            × OnErr result (self.new.unstored ≡ self.old.unstored) }
-        ensures disk { SameDisk D.Disk self.old.slots.disk self.new.slots.disk }
+        ensures standing { IsStanding D.Disk self.new }
+        ensures ok { OnOk result (CommitsMarks D.Disk self.old self.old.marks self.new
+            × IsInMemory self.new self.old.marks false) }
+        ensures err { OnErr result (FailsToCommitMarks D.Disk self.old self.old.marks self.new
+            × IsInMemory self.new self.old.marks self.old.unstored) }
+        ensures same { KeepsSnapshot D.Disk self.old self.new }
         ensures cause { HasCount (D.faults self.old.slots.disk) (D.faults self.new.slots.disk)
             result }
     {
@@ -120,23 +111,17 @@ impl<D: Disk> Meta<D> {
     /// then the marks in memory are as before, and what is stored is too. It takes no memory.
     pub fn mark(&mut self, block: u32) -> Result<(), u64>
         requires block { block < blocks_of_marks self.old.marks }
-        requires ready { (self.old.unstored ≡ false) × (self.old.slots.number < 2 ^ 63 - 1) }
-        requires fit { FitTogether D.Disk self.old }
-        requires stands { Now D.Disk (MetaStands self.old) self.old.slots.disk }
+        requires ready { IsReady D.Disk self.old }
         ensures moments { EachMoment D.Disk (MetaStores self.old (with_block self.old.marks block))
             self.old.slots.disk self.new.slots.disk }
-        ensures fit { FitTogether D.Disk self.new }
-        ensures stands { Now D.Disk (MetaStands self.new) self.new.slots.disk }
+        ensures standing { IsStanding D.Disk self.new }
         ensures ok { OnOk result
-            (AtEnd D.Disk (HasStored self.old (with_block self.old.marks block) self.new)
-            self.old.slots.disk self.new.slots.disk) }
+            (CommitsMarks D.Disk self.old (with_block self.old.marks block) self.new
+            × IsInMemory self.new (with_block self.old.marks block) false) }
         ensures err { OnErr result
-            (AtEnd D.Disk (StillStores self.old (with_block self.old.marks block) self.new)
-            self.old.slots.disk self.new.slots.disk) }
-        ensures memory { OnOk result (self.new.marks ≡ with_block self.old.marks block)
-            × OnErr result (self.new.marks ≡ self.old.marks)
-            × (self.new.unstored ≡ false) }
-        ensures disk { SameDisk D.Disk self.old.slots.disk self.new.slots.disk }
+            (FailsToCommitMarks D.Disk self.old (with_block self.old.marks block) self.new
+            × IsInMemory self.new self.old.marks false) }
+        ensures same { KeepsSnapshot D.Disk self.old self.new }
         ensures cause { HasCount (D.faults self.old.slots.disk) (D.faults self.new.slots.disk)
             result }
     {
@@ -156,22 +141,16 @@ impl<D: Disk> Meta<D> {
     /// next era stands in memory alone, and `store` stores it. It takes no memory.
     pub fn roll(&mut self) -> Result<(), u64>
         requires era { self.old.marks.era < LAST_ERA }
-        requires ready { (self.old.unstored ≡ false) × (self.old.slots.number < 2 ^ 63 - 1) }
-        requires fit { FitTogether D.Disk self.old }
-        requires stands { Now D.Disk (MetaStands self.old) self.old.slots.disk }
+        requires ready { IsReady D.Disk self.old }
         ensures moments { EachMoment D.Disk (MetaStores self.old (rolled self.old.marks))
             self.old.slots.disk self.new.slots.disk }
-        ensures fit { FitTogether D.Disk self.new }
-        ensures stands { Now D.Disk (MetaStands self.new) self.new.slots.disk }
-        ensures ok { OnOk result (AtEnd D.Disk (HasStored self.old (rolled self.old.marks) self.new)
-            self.old.slots.disk self.new.slots.disk) }
+        ensures standing { IsStanding D.Disk self.new }
+        ensures ok { OnOk result (CommitsMarks D.Disk self.old (rolled self.old.marks) self.new
+            × IsInMemory self.new (rolled self.old.marks) false) }
         ensures err { OnErr result
-            (AtEnd D.Disk (StillStores self.old (rolled self.old.marks) self.new)
-            self.old.slots.disk self.new.slots.disk) }
-        ensures memory { (self.new.marks ≡ rolled self.old.marks)
-            × OnOk result (self.new.unstored ≡ false)
-            × OnErr result (self.new.unstored ≡ true) }
-        ensures disk { SameDisk D.Disk self.old.slots.disk self.new.slots.disk }
+            (FailsToCommitMarks D.Disk self.old (rolled self.old.marks) self.new
+            × IsInMemory self.new (rolled self.old.marks) true) }
+        ensures same { KeepsSnapshot D.Disk self.old self.new }
         ensures cause { HasCount (D.faults self.old.slots.disk) (D.faults self.new.slots.disk)
             result }
     {

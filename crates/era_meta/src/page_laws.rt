@@ -1,13 +1,16 @@
 //! What pages say and where they stand, as laws: the functions do nothing, and their clauses are the laws.
 
 ghost use Rattle.std.specs.Prelude.{◌≡◌, ℕ, List, Option};
+ghost use Rattle.std.specs.Option.{option_map};
 ghost use Rattle.era_layout.specs.Root.{RootFields, IsValidRoot};
 ghost use Rattle.era_model.specs.Marks.{BlockMarks};
+ghost use Rattle.era_model.specs.Usage.{IsUsage};
 ghost use Rattle.era_model.specs.Validity.{AreValidMarks};
 ghost use Rattle.era_meta.specs.Areas.{HasFreeArea, LieInAreas};
 ghost use Rattle.era_meta.specs.Content.{blocks_of_root, content_of, marks_in, IsWholeContent};
-ghost use Rattle.era_meta.specs.Meaning.{reached};
+ghost use Rattle.era_meta.specs.Meaning.{marks_on, reached, IsWholeRoot};
 ghost use Rattle.era_meta.specs.SaysMarks.{SaysMarks, IsRootFor};
+ghost use Rattle.era_meta.specs.Usage.{used_by};
 
 /// A root of valid marks whose pages say these marks, page by page, says them, and no kind of damage of a page applies
 /// to its pages.
@@ -24,4 +27,11 @@ pub fn pages_say_marks()
 pub fn two_roots_leave_an_area()
     ensures { (root : RootFields) (held : Option RootFields) → LieInAreas root held
         → HasFreeArea (blocks_of_root root) (reached root held) }
+{}
+
+/// The count of used metadata blocks is a usage of the marks and of the snapshot, as a status may tell it.
+pub fn used_blocks_are_a_usage()
+    ensures { (page : ℕ → List ℕ) (root : RootFields) (held : Option RootFields)
+        → IsWholeRoot page root held
+        → IsUsage (marks_on page root) (option_map (marks_on page) held) (used_by root held) }
 {}

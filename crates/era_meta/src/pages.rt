@@ -1,15 +1,14 @@
 //! Puts pages on a disk before a commit.
 
-ghost use Rattle.std.specs.Prelude.{◌≡◌, ◌^◌, ◌≤◌, false, length, OnOk};
+ghost use Rattle.std.specs.Prelude.{◌^◌, ◌≤◌, length, OnOk};
 ghost use Rattle.std.specs.List.{AllByRecursion};
-ghost use Rattle.era_base.specs.Calls.{EachMoment, Now, MakesCalls, SameDisk};
+ghost use Rattle.era_base.specs.Calls.{EachMoment, Now, MakesCalls};
 ghost use Rattle.era_base.specs.Faults.{HasCount};
 ghost use Rattle.era_layout.specs.Root.{AreDifferent};
-ghost use Rattle.era_slots.specs.Calls.{StandFor, SameSlots};
 ghost use Rattle.era_slots.specs.Promise.{PutsPage};
 ghost use Rattle.era_slots.specs.Slot.{page_of};
 ghost use Rattle.era_meta.specs.Putting.{PutsAmong};
-ghost use Rattle.era_meta.specs.Stored.{CanHold, HavePages};
+ghost use Rattle.era_meta.specs.Stored.{CanHold, HasClosedGate, HavePages, KeepsSlots};
 
 use crate::page_source::PageSource;
 use era_base::Disk;
@@ -22,17 +21,14 @@ fn put_one<D: Disk, P: PageSource>(
     source: &P,
     index: u32,
 ) -> Result<(), u64>
-    requires stands { Now D.Disk (StandFor slots.old) slots.old.disk }
-    requires begun { slots.old.may_be_open ≡ false }
+    requires ready { HasClosedGate D.Disk slots.old }
     requires block { CanHold (D.sectors slots.old.disk) block }
     ensures moments { EachMoment D.Disk
         (PutsPage slots.old.target slots.old.number block) slots.old.disk slots.new.disk }
-    ensures stands { Now D.Disk (StandFor slots.new) slots.new.disk }
+    ensures keeps { KeepsSlots D.Disk slots.old slots.new }
     ensures put { OnOk result
         (Now D.Disk (λ now. P.says source.now index (page_of block now.seen)) slots.new.disk) }
     ensures calls { MakesCalls D.Disk 1 slots.old.disk slots.new.disk }
-    ensures same { SameSlots slots.old slots.new
-        × SameDisk D.Disk slots.old.disk slots.new.disk }
     ensures cause { HasCount (D.faults slots.old.disk) (D.faults slots.new.disk) result }
 {
     let mut page = [0; 4_096];
@@ -48,19 +44,16 @@ pub fn put_pages<D: Disk, P: PageSource>(
     blocks: &[u32],
     source: &P,
 ) -> Result<(), u64>
-    requires stands { Now D.Disk (StandFor slots.old) slots.old.disk }
-    requires begun { slots.old.may_be_open ≡ false }
+    requires ready { HasClosedGate D.Disk slots.old }
     requires blocks { AllByRecursion (CanHold (D.sectors slots.old.disk)) blocks.now }
     requires count { length blocks.now ≤ 2 ^ 32 }
     ensures moments { EachMoment D.Disk
         (PutsAmong blocks.now slots.old.target slots.old.number) slots.old.disk slots.new.disk }
-    ensures stands { Now D.Disk (StandFor slots.new) slots.new.disk }
+    ensures keeps { KeepsSlots D.Disk slots.old slots.new }
     ensures put { AreDifferent blocks.now → OnOk result
         (Now D.Disk (HavePages P.says source.now blocks.now) slots.new.disk) }
     ensures calls { OnOk result
         (MakesCalls D.Disk (length blocks.now) slots.old.disk slots.new.disk) }
-    ensures same { SameSlots slots.old slots.new
-        × SameDisk D.Disk slots.old.disk slots.new.disk }
     ensures cause { HasCount (D.faults slots.old.disk) (D.faults slots.new.disk) result }
 {
     for index in 0..blocks.len() {

@@ -1,12 +1,12 @@
 //! The one internal call that stores marks.
 
-ghost use Rattle.std.specs.Prelude.{◌≡◌, ◌+◌, ◌-◌, ◌<◌, ◌^◌, false, length, OnOk, OnErr, if◌then◌else◌};
-ghost use Rattle.era_base.specs.Calls.{Now, MakesCalls, SameDisk};
+ghost use Rattle.std.specs.Prelude.{◌≡◌, ◌+◌, ◌-◌, ◌<◌, ◌^◌, false, OnOk, OnErr};
+ghost use Rattle.era_base.specs.Calls.{Now, MakesCalls};
 ghost use Rattle.era_base.specs.Faults.{HasCount};
 ghost use Rattle.era_layout.specs.Root.{fields_of, pages_of, IsValidRoot};
 ghost use Rattle.era_slots.specs.Calls.{StandFor, KeepsTarget};
 ghost use Rattle.era_meta.specs.SaysMarks.{IsRootFor};
-ghost use Rattle.era_meta.specs.Stored.{HasBlocks, TakesNextSlot};
+ghost use Rattle.era_meta.specs.Stored.{HasBlocks, StillStand, TakesNextSlot};
 ghost use Rattle.era_meta.specs.StoredMarks.{PreparesMarks, HasPreparedMarks, FailsToPrepare, StoresMarks, HasStoredMarks, FailsToStoreMarks, putting_calls};
 
 use crate::commits::commit_root;
@@ -28,17 +28,14 @@ fn put_marks<D: Disk>(slots: &mut Slots<D>, next: &Root, marks: &LiveMarks) -> R
     requires root { IsValidRoot (fields_of next.now)
         × IsRootFor (fields_of next.now) marks.now }
     ensures moments { PreparesMarks D.Disk (fields_of next.now) slots.old slots.new }
-    ensures stands { Now D.Disk (StandFor slots.new) slots.new.disk }
+    ensures keeps { StillStand D.Disk slots.old slots.new × KeepsTarget slots.old slots.new }
     ensures ok { OnOk result
-        (HasPreparedMarks D.Disk (fields_of next.now) marks.now slots.old slots.new) }
+        (HasPreparedMarks D.Disk (fields_of next.now) marks.now slots.old slots.new
+        × (slots.new.may_be_open ≡ false)
+        × MakesCalls D.Disk (putting_calls slots.old.may_be_open (fields_of next.now))
+        slots.old.disk slots.new.disk) }
     ensures err { OnErr result
         (FailsToPrepare D.Disk (fields_of next.now) slots.old slots.new) }
-    ensures begun { OnOk result (slots.new.may_be_open ≡ false) }
-    ensures calls { OnOk result
-        (MakesCalls D.Disk (putting_calls slots.old.may_be_open (fields_of next.now))
-        slots.old.disk slots.new.disk) }
-    ensures same { KeepsTarget slots.old slots.new
-        × SameDisk D.Disk slots.old.disk slots.new.disk }
     ensures cause { HasCount (D.faults slots.old.disk) (D.faults slots.new.disk) result }
 {
     page_on_the_disk_is_left();
@@ -56,23 +53,21 @@ fn put_marks<D: Disk>(slots: &mut Slots<D>, next: &Root, marks: &LiveMarks) -> R
 /// faults, which rose; then what is stored is as before, and a crash may leave these marks where the gate may be open.
 /// It takes no memory.
 pub fn store_marks<D: Disk>(slots: &mut Slots<D>, next: &Root, marks: &LiveMarks) -> Result<(), u64>
-    requires below { slots.old.number < 2 ^ 63 - 1 }
-    requires stands { Now D.Disk (StandFor slots.old) slots.old.disk }
+    requires stands { Now D.Disk (StandFor slots.old) slots.old.disk
+        × (slots.old.number < 2 ^ 63 - 1) }
     requires room { HasBlocks (fields_of next.now) (D.sectors slots.old.disk) }
     requires root { IsValidRoot (fields_of next.now)
         × IsRootFor (fields_of next.now) marks.now }
     ensures moments { StoresMarks D.Disk (fields_of next.now) marks.now slots.old slots.new }
-    ensures stands { Now D.Disk (StandFor slots.new) slots.new.disk }
+    ensures keeps { StillStand D.Disk slots.old slots.new }
     ensures ok { OnOk result
-        (HasStoredMarks D.Disk (fields_of next.now) marks.now slots.old slots.new) }
-    ensures err { OnErr result
-        (FailsToStoreMarks D.Disk (fields_of next.now) marks.now slots.old slots.new) }
-    ensures next { OnOk result (TakesNextSlot slots.old slots.new)
-        × OnErr result (KeepsTarget slots.old slots.new) }
-    ensures calls { OnOk result
-        (MakesCalls D.Disk (putting_calls slots.old.may_be_open (fields_of next.now) + 4)
+        (HasStoredMarks D.Disk (fields_of next.now) marks.now slots.old slots.new
+        × TakesNextSlot slots.old slots.new
+        × MakesCalls D.Disk (putting_calls slots.old.may_be_open (fields_of next.now) + 4)
         slots.old.disk slots.new.disk) }
-    ensures disk { SameDisk D.Disk slots.old.disk slots.new.disk }
+    ensures err { OnErr result
+        (FailsToStoreMarks D.Disk (fields_of next.now) marks.now slots.old slots.new
+        × KeepsTarget slots.old slots.new) }
     ensures cause { HasCount (D.faults slots.old.disk) (D.faults slots.new.disk) result }
 {
     put_marks(slots, next, marks)?;

@@ -39,39 +39,33 @@ returns-clause-valid c = λ m are for.
     let geometry = c.number_pages.new.next.geometry in
     numbered-valid c.free_area-area.result c.args.sets.now (fields_of c.number_pages.new.next) m
     (rw (ap (λ (geometry : Geometry). geometry.sectors) c.number_pages.ensures.same.0, ← c.sectors-sectors.ensures) c.sectors-sectors.type_inv) (record { some = geometry.some; block_size = geometry.block_size; limited = geometry.limited })
-    (omega (arith, c.number_pages.ensures.same.1, c.ranges.era.fits)) c.free_area-area.ensures.three c.requires.count (numbered c) are for
-
-pub returns-clause-area : goal.returns-clause-area
-returns-clause-area c = (
-  c.free_area-area.result,
-  c.free_area-area.ensures,
-  rw (let e : length c.number_pages.new.next.archive ≡ length c.args.sets.now = ap length (numbered c).archive ∙ length-archived _ _ c.args.sets.now in e) (pages-are c),
-)
-
-pub returns-clause-fresh : goal.returns-clause-fresh
-returns-clause-fresh c =
-    let blocks = blocks_of_root (fields_of c.args.root.now) in
-    record {
-      apart = rw (pages-are c) (free-numbers blocks c.free_area-area.result _ _ (count-fits blocks (length c.args.sets.now) c.requires.count) c.free_area-area.ensures.free);
-      flag = c.number_pages.ensures.same.2;
-      sectors = ap (λ (geometry : Geometry). geometry.sectors) c.number_pages.ensures.same.0;
-      block_sectors = ap (λ (geometry : Geometry). geometry.block_sectors) c.number_pages.ensures.same.0;
-    }
+    (omega (arith, c.number_pages.ensures.same.1, c.ranges.era.fits)) c.free_area-area.ensures.three c.requires.sets.1 (numbered c) are for
 
 lie : (c : goal.After-number_pages) → LieInAnArea (blocks_of_root (fields_of c.number_pages.new.next)) (pages_of (fields_of c.number_pages.new.next))
 lie c =
     let next = fields_of c.number_pages.new.next in let blocks = blocks_of_root next in
     subst (LieInAnArea blocks) (sym (numbered-pages _ c.args.sets.now next (numbered c)))
-    (numbers-lie blocks c.free_area-area.result (page_count blocks (length c.args.sets.now)) c.free_area-area.ensures.three (count-fits blocks (length c.args.sets.now) c.requires.count))
+    (numbers-lie blocks c.free_area-area.result (page_count blocks (length c.args.sets.now)) c.free_area-area.ensures.three (count-fits blocks (length c.args.sets.now) c.requires.sets.1))
 
-pub returns-clause-lies : goal.returns-clause-lies
-returns-clause-lies c = lie c
-
-pub returns-clause-areas : goal.returns-clause-areas
-returns-clause-areas c = areas-stay (fields_of c.args.root.now) (fields_of c.number_pages.new.next) (held_fields (option_copied c.args.held)) (same-blocks c) (lie c)
+pub returns-clause-placed : goal.returns-clause-placed
+returns-clause-placed c =
+    let root = fields_of c.args.root.now in let next = fields_of c.number_pages.new.next in let blocks = blocks_of_root root in
+    let count : length next.archive ≡ length c.args.sets.now = ap length (numbered c).archive ∙ length-archived _ _ c.args.sets.now in
+    let few = count-fits blocks (length c.args.sets.now) c.requires.sets.1 in
+    record {
+      area = (c.free_area-area.result, c.free_area-area.ensures, rw count (pages-are c));
+      fresh = record {
+        apart = rw (pages-are c) (free-numbers blocks c.free_area-area.result _ _ few c.free_area-area.ensures.free);
+        flag = c.number_pages.ensures.same.2;
+        sectors = ap (λ (geometry : Geometry). geometry.sectors) c.number_pages.ensures.same.0;
+        block_sectors = ap (λ (geometry : Geometry). geometry.block_sectors) c.number_pages.ensures.same.0;
+      };
+      lies = lie c;
+      areas = areas-stay root next (held_fields (option_copied c.args.held)) (same-blocks c) (lie c);
+    }
 
 pub returns-clause-lists : goal.returns-clause-lists
 returns-clause-lists c =
     lists-stay _ c.args.sets.now (fields_of c.args.next.now) (fields_of c.number_pages.new.next) c.args.spare.now c.number_pages.new.spare
     (subst (λ (blocks : ℕ). HasPageLists blocks (fields_of c.args.next.now) c.args.spare.now) (sym (same-blocks c)) c.requires.lists)
-    c.requires.enough (numbered c) c.number_pages.ensures.spare
+    c.requires.sets.0 (numbered c) c.number_pages.ensures.spare

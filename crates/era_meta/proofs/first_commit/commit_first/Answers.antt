@@ -30,6 +30,7 @@ returns-clause-ok g c = ok_map c.commit.result (λ stored.
     let number : slots.number ≡ 1 = stored.number ∙ ap (λ (n : ℕ). n + 1) c.requires.blank.number in
     let flag : slots.may_be_open ≡ false = stored.may_be_open ∙ ap (λ (n : ℕ). nat_lt 0 n) c.requires.blank.number in (
       number,
+      stored.calls,
       λ told.
           let next = fields_of c.args.next.now in
           let old = g.D.Disk.history c.args.slots.now.disk in

@@ -1,4 +1,4 @@
-use Rattle.std.proofs.Common.{◌≡◌, ℕ, ◌*◌, false, None, length, refl, ap, sym, ◌∙◌, subst, inl, inr}
+use Rattle.std.proofs.Common.{◌≡◌, ℕ, ◌*◌, false, None, length, refl, ap, sym, ◌∙◌, subst, inl, inr, arith}
 use Rattle.era_base.proofs.Moments.{went-join}
 use Rattle.era_layout.specs.Root.{fields_of, pages_of}
 use Rattle.era_model.specs.Marks.{BlockMarks}
@@ -18,13 +18,13 @@ commit_first-requires-clause-may g c = λ told.
     let next = fields_of c.args.next.now in
     let slots = c.put_root.new.slots in
     let blank = c.requires.blank.0 in
-    let same = c.put_root.ensures.same.0 in
+    let same = c.put_root.ensures.keeps.same in
     let mid = (g.D.Disk.history slots.disk).now in
     let size : length mid.seen ≡ g.D.Disk.sectors c.args.slots.now.disk * 512
-    = (g.met.D.Disk.whole slots.disk told).bytes ∙ ap (λ (n : ℕ). n * 512) c.put_root.ensures.same.1.size in
+    = (g.met.D.Disk.whole slots.disk told).bytes ∙ ap (λ (n : ℕ). n * 512) c.put_root.ensures.keeps.device.size in
     record {
       stands = at-fields (λ t n f. Stands t n f mid) slots.target 0 slots.number 0 slots.may_be_open false
-          (sym (same.target ∙ blank.target)) (sym (same.number ∙ blank.number)) (sym (same.may_be_open ∙ blank.closed)) (c.put_root.ensures.stands told);
+          (sym (same.target ∙ blank.target)) (sym (same.number ∙ blank.number)) (sym (same.may_be_open ∙ blank.closed)) (c.put_root.ensures.keeps.stands told);
       whole = record {
         valid = c.requires.root.0;
         whole = c.pages_say_marks.ensures.whole (pages_in mid.seen) next c.args.marks.now c.requires.root.0 c.are_valid.ensures c.requires.root.1
@@ -57,6 +57,7 @@ returns-clause-moments g c = λ told.
 pub returns-clause-ok : goal.returns-clause-ok
 returns-clause-ok g c = ok_map c.commit_first.result (λ committed. (
   committed.0,
+  λ told. let puts = c.in_ok-put_root.ensures.calls told in let more = committed.1 told in omega arith,
   λ told.
       let next = fields_of c.args.next.now in
       let mid = (g.D.Disk.history c.put_root.new.slots.disk).now in
@@ -64,5 +65,5 @@ returns-clause-ok g c = ok_map c.commit_first.result (λ committed. (
       = ap (λ (m : BlockMarks). marks_alone m) (c.pages_say_marks.ensures.marks (pages_in mid.seen) next c.args.marks.now c.requires.root.0
       c.are_valid.ensures c.requires.root.1 (c.in_ok-put_root.ensures.put told)) in
       subst (λ (meaning : Meaning). IsStoredRoot c.commit_first.new.slots next None meaning (g.D.Disk.history c.commit_first.new.slots.disk).now) said
-      (committed.1 told),
+      (committed.2 told),
 )) c.commit_first.ensures.ok

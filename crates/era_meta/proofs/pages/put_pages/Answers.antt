@@ -19,7 +19,7 @@ loop-index-preserved g c = record {
       went-put c.args.blocks.now c.args.slots.now.target c.args.slots.now.number c.loop-index.index (g.D.Disk.history c.args.slots.now.disk)
       (g.D.Disk.history c.loop-index.slots.disk) (g.D.Disk.history c.put_one.new.slots.disk) c.loop-index-test.true (c.loop-index.invariant.went told)
       (rw (c.loop-index.invariant.slots.target, c.loop-index.invariant.slots.number) at (c.put_one.ensures.moments told));
-  stands = c.put_one.ensures.stands;
+  stands = c.put_one.ensures.keeps.stands;
   put = λ told differ.
       let put = went-now (PutsPage c.loop-index.slots.target c.loop-index.slots.number (get_or c.args.blocks.now c.loop-index.index 0))
       (g.D.Disk.history c.loop-index.slots.disk) (g.D.Disk.history c.put_one.new.slots.disk) (c.put_one.ensures.moments told) in

@@ -17,16 +17,16 @@ put_pages-requires-clause-blocks g c =
 
 pub put_pages-requires-2-clause-blocks : goal.put_pages-requires-2-clause-blocks
 put_pages-requires-2-clause-blocks g c =
-    rw (c.as_slice-2.ensures, c.put_pages.ensures.same.1.size)
+    rw (c.as_slice-2.ensures, c.put_pages.ensures.keeps.device.size)
     (root-parts (fields_of c.args.next.now) (g.D.Disk.sectors c.args.slots.now.disk) c.requires.root.0 c.requires.room).current
 
 pub put_sets-requires-clause-blocks : goal.put_sets-requires-clause-blocks
 put_sets-requires-clause-blocks g c =
-    rw (c.as_slice-3.ensures, c.put_pages-2.ensures.same.1.size, c.put_pages.ensures.same.1.size)
+    rw (c.as_slice-3.ensures, c.put_pages-2.ensures.keeps.device.size, c.put_pages.ensures.keeps.device.size)
     (root-parts (fields_of c.args.next.now) (g.D.Disk.sectors c.args.slots.now.disk) c.requires.root.0 c.requires.room).archive
 
-pub put_sets-requires-clause-sizes : goal.put_sets-requires-clause-sizes
-put_sets-requires-clause-sizes g c = rw c.as_slice-3.ensures (root-sizes (fields_of c.args.next.now) c.requires.root.0)
+pub put_sets-requires-clause-sets : goal.put_sets-requires-clause-sets
+put_sets-requires-clause-sets g c = rw (c.as_slice-3.ensures, c.archive.ensures) (c.requires.root.1.archive, root-sizes (fields_of c.args.next.now) c.requires.root.0)
 
 -- the puts of the array failed
 pub returns-in_err-put_pages-clause-moments : goal.returns-in_err-put_pages-clause-moments
@@ -44,7 +44,7 @@ returns-in_err-put_pages-2-clause-moments g c = λ told.
     went-among (pages_of root) c.args.slots.now.target c.args.slots.now.number old one two
     (went-array root c.args.slots.now.target c.args.slots.now.number old one (rw c.as_slice.ensures at (c.put_pages.ensures.moments told)))
     (went-current root c.args.slots.now.target c.args.slots.now.number one two
-    (rw (c.as_slice-2.ensures, c.put_pages.ensures.same.0.target, c.put_pages.ensures.same.0.number) at (c.put_pages-2.ensures.moments told)))
+    (rw (c.as_slice-2.ensures, c.put_pages.ensures.keeps.same.target, c.put_pages.ensures.keeps.same.number) at (c.put_pages-2.ensures.moments told)))
 
 -- the last ones
 pub returns-clause-moments : goal.returns-clause-moments
@@ -58,9 +58,9 @@ returns-clause-moments g c = λ told.
     (went-among (pages_of root) c.args.slots.now.target c.args.slots.now.number old one two
     (went-array root c.args.slots.now.target c.args.slots.now.number old one (rw c.as_slice.ensures at (c.put_pages.ensures.moments told)))
     (went-current root c.args.slots.now.target c.args.slots.now.number one two
-    (rw (c.as_slice-2.ensures, c.put_pages.ensures.same.0.target, c.put_pages.ensures.same.0.number) at (c.put_pages-2.ensures.moments told))))
+    (rw (c.as_slice-2.ensures, c.put_pages.ensures.keeps.same.target, c.put_pages.ensures.keeps.same.number) at (c.put_pages-2.ensures.moments told))))
     (went-archive root c.args.slots.now.target c.args.slots.now.number two new
-    (rw (c.as_slice-3.ensures, c.put_pages-2.ensures.same.0.target, c.put_pages-2.ensures.same.0.number, c.put_pages.ensures.same.0.target, c.put_pages.ensures.same.0.number)
+    (rw (c.as_slice-3.ensures, c.put_pages-2.ensures.keeps.same.target, c.put_pages-2.ensures.keeps.same.number, c.put_pages.ensures.keeps.same.target, c.put_pages.ensures.keeps.same.number)
     at (c.put_sets.ensures.moments told)))
 
 pub returns-clause-put : goal.returns-clause-put
@@ -80,9 +80,9 @@ returns-clause-put g c =
     = rw (c.as_slice-2.ensures, c.current.ensures) at (c.in_ok-put_pages-2.ensures.put (subst AreDifferent (sym c.as_slice-2.ensures) parts.current_differ) told) in
     root-says root m (g.D.Disk.sectors c.args.slots.now.disk) target number one.now two.now new.now parts
     (went-now (PutsAmong root.current target number) one two
-    (rw (c.as_slice-2.ensures, c.put_pages.ensures.same.0.target, c.put_pages.ensures.same.0.number) at (c.put_pages-2.ensures.moments told)))
+    (rw (c.as_slice-2.ensures, c.put_pages.ensures.keeps.same.target, c.put_pages.ensures.keeps.same.number) at (c.put_pages-2.ensures.moments told)))
     (went-now (PutsAmong (archive_pages root.archive) target number) two new
-    (rw (c.as_slice-3.ensures, c.put_pages-2.ensures.same.0.target, c.put_pages-2.ensures.same.0.number, c.put_pages.ensures.same.0.target, c.put_pages.ensures.same.0.number)
+    (rw (c.as_slice-3.ensures, c.put_pages-2.ensures.keeps.same.target, c.put_pages-2.ensures.keeps.same.number, c.put_pages.ensures.keeps.same.target, c.put_pages.ensures.keeps.same.number)
     at (c.put_sets.ensures.moments told)))
     (entries-put m.array root.array one.now array) (flags-put m.current root.current two.now current)
     (rw (c.as_slice-3.ensures, c.archive.ensures) at (says told)))

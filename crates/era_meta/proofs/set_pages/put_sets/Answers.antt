@@ -11,7 +11,7 @@ use Rattle.era_meta.proofs.PutSets.{sets-length, sets-put, pages-more, set-holds
 use Rattle.era_meta.proofs.set_pages.put_sets.Goals as goal
 
 pub bounds-sets-index : goal.bounds-sets-index
-bounds-sets-index g c = let size = sets-length c.args.sets.now c.args.archive.now c.requires.eras in omega arith
+bounds-sets-index g c = let size = sets-length c.args.sets.now c.args.archive.now c.requires.sets.0 in omega arith
 
 pub put_pages-requires-clause-blocks : goal.put_pages-requires-clause-blocks
 put_pages-requires-clause-blocks g c =
@@ -35,7 +35,7 @@ loop-index-preserved g c = record {
       (g.D.Disk.history c.args.slots.now.disk) (g.D.Disk.history c.loop-index.slots.disk) (g.D.Disk.history c.put_pages.new.slots.disk)
       c.loop-index-test.true c.index-archive-index.is (c.loop-index.invariant.went told)
       (rw (c.as_slice.ensures, c.loop-index.invariant.slots.target, c.loop-index.invariant.slots.number) at (c.put_pages.ensures.moments told));
-  stands = c.put_pages.ensures.stands;
+  stands = c.put_pages.ensures.keeps.stands;
   put = λ told differ.
       let mid = g.D.Disk.history c.loop-index.slots.disk in
       let new = g.D.Disk.history c.put_pages.new.slots.disk in
@@ -44,7 +44,7 @@ loop-index-preserved g c = record {
       let have : HavePages IsBitsPageOf c.index-sets-index.result.blocks x.pages new.now
       = rw (c.as_slice.ensures, c.blocks-in-loop-index.ensures) at (c.in_ok-put_pages.ensures.put (subst AreDifferent (sym c.as_slice.ensures) own) told) in
       sets-put c.args.archive.now c.args.sets.now c.loop-index.index x c.index-sets-index.result c.loop-index.slots.target c.loop-index.slots.number mid.now new.now
-      c.loop-index-test.true c.index-archive-index.is c.index-sets-index.is c.requires.eras
+      c.loop-index-test.true c.index-archive-index.is c.index-sets-index.is c.requires.sets.0
       (all_weaker (CanHold (g.D.Disk.sectors c.args.slots.now.disk)) (λ block. 2 ≤ block) (archive_pages c.args.archive.now) (λ block can. can.behind) c.requires.blocks)
       differ
       (went-now (PutsAmong x.pages c.loop-index.slots.target c.loop-index.slots.number) mid new
@@ -62,7 +62,7 @@ loop-index-preserved g c = record {
 -- all are put
 pub returns-clause-put : goal.returns-clause-put
 returns-clause-put g c = λ differ told.
-    let size = sets-length c.args.sets.now c.args.archive.now c.requires.eras in
+    let size = sets-length c.args.sets.now c.args.archive.now c.requires.sets.0 in
     let says = c.loop-index.invariant.put told differ in
     let past : length c.args.archive.now ≤ c.loop-index.index = c.loop-index-test.false in
     rw (take_all c.loop-index.index c.args.sets.now (omega arith), take_all c.loop-index.index c.args.archive.now past) at says

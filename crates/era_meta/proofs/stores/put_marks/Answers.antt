@@ -1,14 +1,16 @@
 use Rattle.std.proofs.Common.{◌≡◌, ℕ, ◌*◌, true, false, length, refl, sym, ap, ◌∙◌, inr}
 use Rattle.std.proofs.lemmas.Bool.{false≢true}
+use Rattle.era_base.specs.CrashModel.{clock}
 use Rattle.era_base.proofs.Moments.{went-now}
 use Rattle.era_layout.specs.Root.{fields_of, pages_of}
+use Rattle.era_slots.specs.declared.slots.Slots.{Slots}
 use Rattle.era_slots.specs.Standing.{Stands}
 use Rattle.era_slots.specs.Promise.{Begins}
 use Rattle.era_meta.specs.Meaning.{pages_in}
 use Rattle.era_meta.specs.Keeping.{stored_in, Keeps, IsLeft}
 use Rattle.era_meta.specs.Putting.{PutsAmong, MayCommit}
 use Rattle.era_meta.proofs.Begun.{begins-keeps, begins-says, left-before}
-use Rattle.era_meta.proofs.Ends.{ok_map, on_err, at-fields}
+use Rattle.era_meta.proofs.Ends.{count-calls, ok_map2, on_err, at-fields}
 use Rattle.era_meta.proofs.MarksPut.{true-unless, went-begun, put-keeps, put-says, went-prepared, prepared-may, next-says-marks, room-in}
 use Rattle.era_meta.proofs.stores.put_marks.Goals as goal
 
@@ -57,35 +59,42 @@ returns-clause-moments g c = λ told root held may.
     (rw (same.target, same.number) at (c.put_root.ensures.moments told))
 
 pub returns-clause-ok : goal.returns-clause-ok
-returns-clause-ok g c = ok_map c.put_root.result (λ says told root held may.
-    let target = c.args.slots.now.target in
-    let number = c.args.slots.now.number in
-    let flag = c.args.slots.now.may_be_open in
-    let next = fields_of c.args.next.now in
-    let m = c.args.marks.now in
-    let old = g.D.Disk.history c.args.slots.now.disk in
-    let mid = g.D.Disk.history c.begin.new.self.disk in
-    let new = g.D.Disk.history c.put_root.new.slots.disk in
-    let same = c.begin.ensures.same.0 in
-    let stands : Stands target number false mid.now
-    = at-fields (λ t n f. Stands t n f mid.now) c.begin.new.self.target target c.begin.new.self.number number c.begin.new.self.may_be_open false
-    (sym same.target) (sym same.number) (sym c.in_ok-begin.ensures.begun.begun) (c.begin.ensures.stands told) in
-    let begins = went-now (Begins target number flag) old mid (c.begin.ensures.moments told) in
-    let among = went-now (PutsAmong (pages_of next) target number) mid new (rw (same.target, same.number) at (c.put_root.ensures.moments told)) in
-    let keeps = put-keeps (pages_of next) target number flag root held old.now mid.now new.now may.keeps may.fresh.apart begins stands among in
-    let old_says = put-says (pages_of next) target number flag root held old.now mid.now new.now may.keeps may.fresh.apart begins among in
-    let whole = c.pages_say_marks.ensures.whole (pages_in new.now.seen) next m c.requires.root.0 c.are_valid.ensures c.requires.root.1 (says told) in
-    let said = c.pages_say_marks.ensures.marks (pages_in new.now.seen) next m c.requires.root.0 c.are_valid.ensures c.requires.root.1 (says told) in
-    let size : length new.now.seen ≡ g.D.Disk.sectors c.args.slots.now.disk * 512
-    = (g.met.D.Disk.whole c.put_root.new.slots.disk told).bytes ∙ ap (λ (n : ℕ). n * 512) (c.put_root.ensures.same.1.size ∙ c.begin.ensures.same.1.size) in
-    let room = room-in next (g.D.Disk.sectors c.args.slots.now.disk) new.now c.requires.room size in
-    record {
-      may = at-fields (λ t n f. MayCommit t n root next held held new.now) target c.put_root.new.slots.target number c.put_root.new.slots.number flag flag
-          (c.put_root.ensures.same.0.target ∙ same.target) (c.put_root.ensures.same.0.number ∙ same.number) refl
-          (prepared-may target number root next held new.now keeps may.fresh c.requires.root.0 whole room);
-      says = old_says;
-      next_says = next-says-marks root next held m (stored_in old.now root held) new.now said old_says;
-    }) c.put_root.ensures.put
+returns-clause-ok g c = ok_map2 c.put_root.result (λ says calls. (
+  (λ told root held may.
+      let target = c.args.slots.now.target in
+      let number = c.args.slots.now.number in
+      let flag = c.args.slots.now.may_be_open in
+      let next = fields_of c.args.next.now in
+      let m = c.args.marks.now in
+      let old = g.D.Disk.history c.args.slots.now.disk in
+      let mid = g.D.Disk.history c.begin.new.self.disk in
+      let new = g.D.Disk.history c.put_root.new.slots.disk in
+      let same = c.begin.ensures.same.0 in
+      let stands : Stands target number false mid.now
+      = at-fields (λ t n f. Stands t n f mid.now) c.begin.new.self.target target c.begin.new.self.number number c.begin.new.self.may_be_open false
+      (sym same.target) (sym same.number) (sym c.in_ok-begin.ensures.begun.begun) (c.begin.ensures.stands told) in
+      let begins = went-now (Begins target number flag) old mid (c.begin.ensures.moments told) in
+      let among = went-now (PutsAmong (pages_of next) target number) mid new (rw (same.target, same.number) at (c.put_root.ensures.moments told)) in
+      let keeps = put-keeps (pages_of next) target number flag root held old.now mid.now new.now may.keeps may.fresh.apart begins stands among in
+      let old_says = put-says (pages_of next) target number flag root held old.now mid.now new.now may.keeps may.fresh.apart begins among in
+      let whole = c.pages_say_marks.ensures.whole (pages_in new.now.seen) next m c.requires.root.0 c.are_valid.ensures c.requires.root.1 (says told) in
+      let said = c.pages_say_marks.ensures.marks (pages_in new.now.seen) next m c.requires.root.0 c.are_valid.ensures c.requires.root.1 (says told) in
+      let size : length new.now.seen ≡ g.D.Disk.sectors c.args.slots.now.disk * 512
+      = (g.met.D.Disk.whole c.put_root.new.slots.disk told).bytes ∙ ap (λ (n : ℕ). n * 512) (c.put_root.ensures.keeps.device.size ∙ c.begin.ensures.same.1.size) in
+      let room = room-in next (g.D.Disk.sectors c.args.slots.now.disk) new.now c.requires.room size in
+      record {
+        may = at-fields (λ t n f. MayCommit t n root next held held new.now) target c.put_root.new.slots.target number c.put_root.new.slots.number flag flag
+            (c.put_root.ensures.keeps.same.target ∙ same.target) (c.put_root.ensures.keeps.same.number ∙ same.number) refl
+            (prepared-may target number root next held new.now keeps may.fresh c.requires.root.0 whole room);
+        says = old_says;
+        next_says = next-says-marks root next held m (stored_in old.now root held) new.now said old_says;
+      }),
+  c.put_root.ensures.keeps.same.may_be_open ∙ c.in_ok-begin.ensures.begun.begun,
+  λ told. count-calls c.args.slots.now.may_be_open (clock (g.D.Disk.history c.args.slots.now.disk)) (clock (g.D.Disk.history c.begin.new.self.disk))
+      (clock (g.D.Disk.history c.put_root.new.slots.disk)) (length (pages_of (fields_of c.args.next.now)))
+      (λ opened. (c.in_ok-begin.ensures.closed opened).calls told)
+      (λ closed. ap (λ (slots : Slots g.row.D.Denot). clock (g.D.Disk.history slots.disk)) (c.in_ok-begin.ensures.begun.quiet closed).1) (calls told),
+)) c.put_root.ensures.put c.put_root.ensures.calls
 
 pub returns-clause-err : goal.returns-clause-err
 returns-clause-err g c = on_err c.put_root.result (λ told root held may other.
@@ -102,10 +111,10 @@ returns-clause-err g c = on_err c.put_root.result (λ told root held may other.
     (sym same.target) (sym same.number) (sym c.in_ok-begin.ensures.begun.begun) (c.begin.ensures.stands told) in
     let begins = went-now (Begins target number flag) old mid (c.begin.ensures.moments told) in
     let among = went-now (PutsAmong (pages_of next) target number) mid new (rw (same.target, same.number) at (c.put_root.ensures.moments told)) in
-    let closed : c.put_root.new.slots.may_be_open ≡ false = c.put_root.ensures.same.0.may_be_open ∙ c.in_ok-begin.ensures.begun.begun in
+    let closed : c.put_root.new.slots.may_be_open ≡ false = c.put_root.ensures.keeps.same.may_be_open ∙ c.in_ok-begin.ensures.begun.begun in
     record {
       keeps = at-fields (λ t n f. Keeps t n f root held new.now) target c.put_root.new.slots.target number c.put_root.new.slots.number false
-          c.put_root.new.slots.may_be_open (c.put_root.ensures.same.0.target ∙ same.target) (c.put_root.ensures.same.0.number ∙ same.number) closed
+          c.put_root.new.slots.may_be_open (c.put_root.ensures.keeps.same.target ∙ same.target) (c.put_root.ensures.keeps.same.number ∙ same.number) closed
           (put-keeps (pages_of next) target number flag root held old.now mid.now new.now may.keeps may.fresh.apart begins stands among);
       says = put-says (pages_of next) target number flag root held old.now mid.now new.now may.keeps may.fresh.apart begins among;
       left = λ opened. absurd (false≢true (sym closed ∙ opened));

@@ -1,0 +1,76 @@
+use Rattle.std.proofs.Common.{◌≡◌, ℕ, ◌-◌, ◌*◌, ◌+◌, ◌<◌, ◌≤◌, true, min, List, [], ◌∷◌, length, get_or, drop, Ok, Err, refl, sym, ap, ◌∙◌, subst, arith, below_more}
+use Rattle.era_base.specs.CrashModel.{State}
+use Rattle.era_base.proofs.Moments.{went-now}
+use Rattle.era_slots.specs.Slot.{page_of}
+use Rattle.era_meta.specs.Damage.{Test, ArrayPage, array_tests}
+use Rattle.era_meta.specs.PageParts.{IsArrayPageOf}
+use Rattle.era_meta.specs.Stored.{CanHold}
+use Rattle.era_meta.specs.Walks.{Walked}
+use Rattle.era_meta.proofs.Loops.{leads-on, leads-out, leads-end, array-more, array-past}
+use Rattle.era_meta.proofs.Puts.{all-at}
+use Rattle.era_meta.proofs.PutSets.{entries-put}
+use Rattle.era_meta.proofs.array_reading.read_array.Goals as goal
+
+pub loop-index-init : goal.loop-index-init
+loop-index-init g c = record {
+  goes = λ new result walked. walked;
+  size = refl;
+  disk = record { place = refl; size = refl };
+  state = λ told. refl;
+  limited = c.requires.limited;
+  says = λ told page lt. absurd (omega arith);
+}
+
+pub read_array_page-requires-clause-block : goal.read_array_page-requires-clause-block
+read_array_page-requires-clause-block g c =
+    let can = all-at (CanHold (g.D.Disk.sectors c.args.slots.now.disk)) c.args.numbers.now c.loop-index.index c.loop-index-test.true c.requires.blocks in
+    subst (λ (sectors : ℕ). get_or c.args.numbers.now c.loop-index.index 0 * 8 + 8 ≤ sectors) (sym c.loop-index.invariant.disk.size) can.within
+
+pub returns-in-Err-clause-walked : goal.returns-in-Err-clause-walked
+returns-in-Err-clause-walked g c =
+    leads-out g.D.Disk (array_tests (length c.args.into.now) c.args.limit c.loop-index.index (drop c.loop-index.index c.args.numbers.now))
+    (ArrayPage (get_or c.args.numbers.now c.loop-index.index 0) (min 1024 (length c.args.into.now - 1024 * c.loop-index.index)) c.args.limit ∷ [])
+    (array_tests (length c.args.into.now) c.args.limit (c.loop-index.index + 1) (drop (c.loop-index.index + 1) c.args.numbers.now))
+    (array_tests (length c.args.into.now) c.args.limit 0 c.args.numbers.now) c.args.slots.now c.loop-index.slots c.read_array_page.new.slots c.in-Err.finding
+    (array-more (length c.args.into.now) c.args.limit c.args.numbers.now c.loop-index.index c.loop-index-test.true)
+    c.loop-index.invariant.goes
+    (subst (λ (n : ℕ). Walked {T = Unit {0}} g.D.Disk (ArrayPage (get_or c.args.numbers.now c.loop-index.index 0) (min 1024 (n - 1024 * c.loop-index.index)) c.args.limit ∷ []) c.loop-index.slots c.read_array_page.new.slots (Err c.in-Err.finding))
+    c.loop-index.invariant.size c.in-Err.ensures.walked)
+
+pub loop-index-preserved : goal.loop-index-preserved
+loop-index-preserved g c = record {
+  goes =
+      leads-on g.D.Disk (array_tests (length c.args.into.now) c.args.limit c.loop-index.index (drop c.loop-index.index c.args.numbers.now))
+      (ArrayPage (get_or c.args.numbers.now c.loop-index.index 0) (min 1024 (length c.args.into.now - 1024 * c.loop-index.index)) c.args.limit ∷ [])
+      (array_tests (length c.args.into.now) c.args.limit (c.loop-index.index + 1) (drop (c.loop-index.index + 1) c.args.numbers.now))
+      (array_tests (length c.args.into.now) c.args.limit 0 c.args.numbers.now) c.args.slots.now c.loop-index.slots c.read_array_page.new.slots tt
+      (array-more (length c.args.into.now) c.args.limit c.args.numbers.now c.loop-index.index c.loop-index-test.true)
+      c.loop-index.invariant.goes
+      (subst (λ (n : ℕ). Walked g.D.Disk (ArrayPage (get_or c.args.numbers.now c.loop-index.index 0) (min 1024 (n - 1024 * c.loop-index.index)) c.args.limit ∷ []) c.loop-index.slots c.read_array_page.new.slots (Ok tt))
+      c.loop-index.invariant.size c.in-Ok.ensures.walked);
+  size = c.read_array_page.ensures.size ∙ c.loop-index.invariant.size;
+  disk = record {
+    place = c.in-Ok.ensures.walked.same.place ∙ c.loop-index.invariant.disk.place;
+    size = c.in-Ok.ensures.walked.same.size ∙ c.loop-index.invariant.disk.size;
+  };
+  state = λ told.
+      went-now (λ before now. now ≡ before) (g.D.Disk.history c.loop-index.slots.disk) (g.D.Disk.history c.read_array_page.new.slots.disk)
+      (c.in-Ok.ensures.walked.told told).went ∙ c.loop-index.invariant.state told;
+  limited = c.in-Ok.ensures.limited;
+  says = λ told. below_more _ _
+      (λ page lt entry within. c.loop-index.invariant.says told page lt entry within
+      ∙ sym (c.in-Ok.ensures.others (1024 * page + entry) (omega arith)))
+      (subst (λ (state : State). IsArrayPageOf c.read_array_page.new.into c.loop-index.index (page_of (get_or c.args.numbers.now c.loop-index.index 0) state.seen))
+      (c.loop-index.invariant.state told) (c.in-Ok.ensures.says told));
+}
+
+pub returns-clause-walked : goal.returns-clause-walked
+returns-clause-walked g c =
+    leads-end g.D.Disk (array_tests (length c.args.into.now) c.args.limit c.loop-index.index (drop c.loop-index.index c.args.numbers.now))
+    (array_tests (length c.args.into.now) c.args.limit 0 c.args.numbers.now) c.args.slots.now c.loop-index.slots tt
+    (array-past (length c.args.into.now) c.args.limit c.args.numbers.now c.loop-index.index c.loop-index-test.false) c.loop-index.invariant.goes
+
+pub returns-clause-says : goal.returns-clause-says
+returns-clause-says g c = λ told.
+    entries-put c.loop-index.into c.args.numbers.now (g.D.Disk.history c.args.slots.now.disk).now
+    (λ page lt. c.loop-index.invariant.says told page (omega (arith, c.loop-index-test.false)))

@@ -1,0 +1,9 @@
+use Rattle.std.proofs.Common.{refl}
+use Rattle.era_layout.specs.Damage.{Passes}
+use Rattle.era_meta.proofs.RootFindings.{root-found}
+use Rattle.era_meta.proofs.roots_reading.decode_slot.Goals as goal
+
+pub returns-in-Err : goal.returns-in-Err
+returns-in-Err c =
+    root-found (Passes c.args.body.now) c.in-Err.error c.args.slot c.root_finding.result (λ differs. (c.in-Err.ensures.refused c.in-Err.error differs).0 refl)
+    c.root_finding.ensures
