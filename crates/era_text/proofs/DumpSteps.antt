@@ -1,6 +1,6 @@
 -- What a line makes of the answer to a dump: it is taken, refused, or not read.
-use Rattle.std.proofs.Common.{◌≡◌, ℕ, ◌+◌, ◌<◌, ◌≤◌, List, [], ◌∷◌, ◌++◌, length, refl, inl, arith}
-use Rattle.std.specs.Prelude.{Option, Some, None, Bool, true, false, Result, Ok, Err, MatchResult, nat_lt}
+use Rattle.std.proofs.Common.{◌≡◌, ℕ, ◌+◌, List, [], ◌∷◌, length, refl, inl}
+use Rattle.std.specs.Prelude.{Option, Some, Bool, Result, Ok, Err, MatchResult}
 use Rattle.std.proofs.lemmas.Bool.{lt-ltb}
 use Rattle.era_line.specs.Lines.{lines_of}
 use Rattle.era_line.specs.Reading.{IsAhead, ReadsLine}

@@ -18,7 +18,7 @@ use Rattle.era_text.specs.Pieces.{lists_text}
 use Rattle.era_text.specs.Written.{GivesDump}
 use Rattle.era_text.specs.declared.text_end.TextEnd.TheVariants.{Sink}
 use Rattle.era_text.proofs.DumpTexts.{text-dump}
-use Rattle.era_text.proofs.Gives.{HasAdded, HasCut}
+use Rattle.era_line.proofs.PartSteps.{HasAdded, HasCut}
 
 -- one set more has maximal runs
 set_runs-push : (sets : List MarkedSet) (set : MarkedSet) → AreSetRuns sets → AreRuns set.blocks → AreSetRuns (sets ++ set ∷ [])

@@ -1,39 +1,13 @@
 -- What is gathered and given of a text of several parts.
-use Rattle.std.proofs.Common.{◌≡◌, ℕ, zero, suc, ◌+◌, ◌<◌, List, [], ◌∷◌, ◌++◌, length, get_or, take, drop, refl, ap, sym, ◌∙◌, subst, append_assoc, length-append, arith}
-use Rattle.std.specs.Prelude.{Option, Some, Result, Ok, Err}
+use Rattle.std.proofs.Common.{◌≡◌, ℕ, zero, suc, ◌+◌, ◌<◌, List, [], ◌∷◌, ◌++◌, length, get_or, take, drop, refl, ap, sym, ◌∙◌, subst, append_assoc, arith}
+use Rattle.std.specs.Prelude.{Option, Result, Ok, Err}
 use Rattle.std.specs.List.{flat_map}
-use Rattle.std.proofs.lemmas.List.{take-append-le, take_more, append-nil, flat_map_more}
+use Rattle.std.proofs.lemmas.List.{take_more, flat_map_more}
 use Rattle.era_base.specs.Streams.{GivesFront}
-use Rattle.era_line.specs.TextBuffer.{Adds, Gathers}
+use Rattle.era_line.specs.TextBuffer.{Adds}
 use Rattle.era_line.specs.declared.text_buffer.TextBuffer.{TextBuffer}
-
--- what was gathered of a text has grown by these bytes
-abbrev pub HasAdded : Option (List ℕ) → TextBuffer → Option (List ℕ) → TextBuffer → List ℕ → Type 0
-HasAdded given buffer given' buffer' bytes =
-    (before text : List ℕ) → Gathers before text given buffer → Gathers before (text ++ bytes) given' buffer'
-
--- of what was gathered of a text and of these bytes a front was given
-abbrev pub HasCut : Option (List ℕ) → TextBuffer → Option (List ℕ) → List ℕ → Type 0
-HasCut given buffer given' bytes =
-    (before text : List ℕ) → Gathers before text given buffer → GivesFront before (text ++ bytes) given'
-
--- no bytes
-pub added-none : (given : Option (List ℕ)) (buffer : TextBuffer) → HasAdded given buffer given buffer []
-added-none given buffer = λ before text is. subst (λ all. Gathers before all given buffer) (sym (append-nil text)) is
-
--- a front of a text is one of a longer text
-front-longer : (before text more : List ℕ) (after : Option (List ℕ)) → GivesFront before text after → GivesFront before (text ++ more) after
-front-longer before text more after front = record {
-  count = front.count;
-  enough = simp length-append (omega (arith, front.enough));
-  given = front.given ∙ ap (λ bytes. Some (before ++ bytes)) (sym (take-append-le front.count text more front.enough));
-}
-
--- bytes and more bytes
-pub added-then : (given given' given'' : Option (List ℕ)) (buffer buffer' buffer'' : TextBuffer) (first rest : List ℕ)
-    → HasAdded given buffer given' buffer' first → HasAdded given' buffer' given'' buffer'' rest → HasAdded given buffer given'' buffer'' (first ++ rest)
-added-then given given' given'' buffer buffer' buffer'' first rest one more = λ before text is.
-    subst (λ all. Gathers before all given'' buffer'') (append_assoc text first rest) (more before (text ++ first) (one before text is))
+use Rattle.era_line.proofs.Gathering.{front-longer}
+use Rattle.era_line.proofs.PartSteps.{HasAdded, HasCut, added-then}
 
 -- bytes, of which a front was given
 pub cut-first : (given given' : Option (List ℕ)) (buffer : TextBuffer) (first rest : List ℕ) → HasCut given buffer given' first → HasCut given buffer given' (first ++ rest)
@@ -51,11 +25,6 @@ pub adds-then : {T E : Type 0} (given given' given'' : Option (List ℕ)) (buffe
     → HasAdded given buffer given' buffer' first → Adds given' buffer' given'' buffer'' rest result → Adds given buffer given'' buffer'' (first ++ rest) result
 adds-then given given' given'' buffer buffer' buffer'' first rest (Ok value) one adds = added-then given given' given'' buffer buffer' buffer'' first rest one adds
 adds-then given given' given'' buffer buffer' buffer'' first rest (Err error) one adds = cut-then given given' given'' buffer buffer' first rest one adds
-
--- the same text, written in another way
-pub adds-same : {T E : Type 0} (given given' : Option (List ℕ)) (buffer buffer' : TextBuffer) (text other : List ℕ) (result : Result T E)
-    → text ≡ other → Adds given buffer given' buffer' text result → Adds given buffer given' buffer' other result
-adds-same given given' buffer buffer' text other result same adds = subst (λ all. Adds given buffer given' buffer' all result) same adds
 
 -- the text of some items, of the next one and of the rest
 flat-split : {A : Type 0} (text : A → List ℕ) (items : List A) (i : ℕ) (d : A) → i < length items

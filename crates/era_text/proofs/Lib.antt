@@ -17,3 +17,6 @@ pub mod LineWords
 pub mod PushedRuns
 pub mod Geometries
 pub mod DumpSteps
+pub mod RunEnds
+pub mod Places
+pub mod RestSteps

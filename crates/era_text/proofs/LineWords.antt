@@ -1,5 +1,5 @@
 -- Words of lines that were counted, and numbers that words are or aren't.
-use Rattle.std.proofs.Common.{◌≡◌, ℕ, ◌<◌, ◌==◌, List, [], ◌∷◌, length, refl, arith}
+use Rattle.std.proofs.Common.{ℕ, ◌<◌, ◌==◌, List, [], ◌∷◌, length, refl, arith}
 use Rattle.std.specs.Prelude.{true, false, if◌then◌else◌}
 use Rattle.era_line.specs.Words.{letter_before, words_of}
 use Rattle.era_text.specs.FirstLine.{Step, with_number}

@@ -72,7 +72,7 @@ past-parts head era is =
     not-false true e = refl
     not-false false e = cc
 
-or-parts : (a b : Bool) → (a || b) ≡ false → (a ≡ false) × (b ≡ false)
+pub or-parts : (a b : Bool) → (a || b) ≡ false → (a ≡ false) × (b ≡ false)
 or-parts true b is = cc
 or-parts false b is = (refl, is)
 

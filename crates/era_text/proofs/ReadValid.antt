@@ -12,6 +12,7 @@ use Rattle.era_text.specs.Dumps.{marks_read}
 use Rattle.era_text.specs.FirstLine.{Head, Refuses, Tells, blocks_in, first_step, head_step, head_words_step, is_geometry, start, with_current_begun, with_number, with_set_ended}
 use Rattle.era_text.specs.Grammar.{Whole, after_step, array_words_step, dump_end, input_end, line_step, next_set_step, rest_end, run_words_step, section_step, set_words_step}
 use Rattle.era_text.specs.Numbers.{number_of}
+use Rattle.era_text.specs.ReadDumps.{IsHead}
 use Rattle.era_text.specs.declared.dump_kind.DumpKind.TheVariants.{BadEra, BadGeometry, LongLine, Unknown}
 use Rattle.era_text.specs.declared.reading.Reading.{Reading}
 use Rattle.era_text.specs.declared.section.Section.{Section}
@@ -62,6 +63,12 @@ section-read Current head reading next line here read told =
     ] told
 section-read Done head reading next line here read told = cc
 
+-- a line that is taken keeps what is promised
+pub line-read : (head : Head) (reading next : Reading) (line : List ℕ) → ReadNext head reading → line_step head reading line ≡ Tells next → ReadNext head next
+line-read head reading next line read told =
+    let short = unless-tells (nat_lt 128 (length line)) LongLine (section_step reading.section head reading line) next told in
+    section-read reading.section head reading next line refl read short.told
+
 -- what was read once the dump is whole
 record ReadsWhole (head other : Head) (reading : Reading) : Type 0 where
   same : other ≡ head
@@ -86,18 +93,9 @@ rest-read [] number head other reading last read is = end-read reading.section (
 rest-read (line ∷ lines) number head other reading last read is =
     elim (line_step head reading line) as (λ step. line_step head reading line ≡ step
     → after_step (number + 1) (λ next. rest_end head lines (number + 1) next) step ≡ Whole other last → ReadsWhole head other last) [
-      | Tells next ↦ λ told ends.
-          let short = unless-tells (nat_lt 128 (length line)) LongLine (section_step reading.section head reading line) next told in
-          rest-read lines (number + 1) head other next last (section-read reading.section head reading next line refl read short.told) ends
+      | Tells next ↦ λ told ends. rest-read lines (number + 1) head other next last (line-read head reading next line read told) ends
       | Refuses kind ↦ λ told ends. cc
     ] refl is
-
--- what the first line tells
-record IsHead (head : Head) : Type 0 where
-  begun : 0 < head.era
-  geometry : is_geometry head.sectors head.block_sectors ≡ true
-  sectors_fit : head.sectors < 2 ^ 64
-  era_fits : head.era < 2 ^ 32
 
 not-false : (b : Bool) → not b ≡ false → b ≡ true
 not-false true e = refl
@@ -130,6 +128,11 @@ head-words-read (a ∷ b ∷ c ∷ d ∷ e ∷ []) head told =
     })
 head-words-read (a ∷ b ∷ c ∷ d ∷ e ∷ f ∷ words) head told = cc
 
+pub first-read : (line : List ℕ) (head : Head) → first_step line ≡ Tells head → IsHead head
+first-read line head told =
+    let short = unless-tells (nat_lt 128 (length line)) LongLine (head_words_step (words_of line)) head told in
+    head-words-read (words_of line) head short.told
+
 -- an entry by runs with eras up to a limit
 entry-upto : (limit : ℕ) (runs : List (ℕ × ℕ × ℕ)) (block : ℕ) → AreUpTo limit runs → era_in_runs runs block ≤ limit
 entry-upto limit [] block upto = omega arith
@@ -146,7 +149,7 @@ length-sets blocks [] = refl
 length-sets blocks (set ∷ sets) = ap suc (length-sets blocks sets)
 
 -- the marks of a whole dump
-marks-valid : (head : Head) (reading : Reading) → IsHead head → AreEras head reading.array reading.archive → AreReadable (marks_read head reading)
+pub marks-valid : (head : Head) (reading : Reading) → IsHead head → AreEras head reading.array reading.archive → AreReadable (marks_read head reading)
 marks-valid head reading is eras =
     let blocks = blocks_in head in
     let limit = entry_limit (sets_of_runs blocks reading.archive) head.era in record {
@@ -171,8 +174,7 @@ lines-valid (line ∷ lines) head reading whole =
     elim (first_step line) as (λ step. first_step line ≡ step → after_step 1 (λ told. rest_end told lines 1 start) step ≡ Whole head reading
     → AreReadable (marks_read head reading)) [
       | Tells first ↦ λ told ends.
-          let short = unless-tells (nat_lt 128 (length line)) LongLine (head_words_step (words_of line)) first told in
-          let is = head-words-read (words_of line) first short.told in
+          let is = first-read line first told in
           let all = rest-read lines 1 first head start reading (refl, refl) ends in
           subst (λ (h : Head). AreReadable (marks_read h reading)) (sym all.same) (marks-valid first reading is all.read)
       | Refuses kind ↦ λ told ends. cc

@@ -1,6 +1,5 @@
--- Texts in pieces: pieces of bytes, and lines of items.
+-- The text of a dump as it is given: the lines of one part after another.
 use Rattle.std.specs.Prelude.{ℕ, List, [], ◌∷◌, ◌++◌, codes}
-use Rattle.std.specs.Borrow.{Bor}
 use Rattle.std.specs.List.{flat_map}
 use Rattle.era_model.specs.declared.marked_set.MarkedSet.{MarkedSet}
 use Rattle.era_text.specs.DumpLines.{era_run_line, head_line, run_line, set_line}
@@ -8,10 +7,6 @@ use Rattle.era_text.specs.DumpLines.{era_run_line, head_line, run_line, set_line
 -- A line with its LF.
 abbrev pub ended : List ℕ → List ℕ
 ended line = line ++ 10 ∷ []
-
--- Pieces of bytes, one after another.
-abbrev pub pieces_text : List (Bor (List ℕ)) → List ℕ
-pieces_text pieces = flat_map (λ (piece : Bor (List ℕ)). piece.now) pieces
 
 -- A line for each item, one after another.
 abbrev pub lines_text_of : {A : Type 0} → (A → List ℕ) → List A → List ℕ

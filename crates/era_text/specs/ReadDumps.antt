@@ -1,9 +1,12 @@
 -- What a reader of dumps answers of a text, and what a source that fails leaves of it.
-use Rattle.std.specs.Prelude.{◌≡◌, ℕ, ◌+◌, Bool, true, false, List, [], Option, Some, Result, Ok, Err, ◌⊎◌}
+use Rattle.std.specs.Prelude.{◌≡◌, ℕ, ◌+◌, ◌<◌, ◌^◌, Bool, true, false, List, [], Option, Some, Result, Ok, Err, ◌⊎◌}
 use Rattle.era_base.specs.Faults.{Rose}
 use Rattle.era_line.specs.Lines.{lines_of}
 use Rattle.era_line.specs.Reading.{BeginsLong, EndsInside, IsAhead, ReadsLine}
-use Rattle.era_text.specs.FirstLine.{Head, Tells, start}
+use Rattle.era_model.specs.MarkRuns.{AreWithin}
+use Rattle.era_model.specs.Marks.{BlockMarks}
+use Rattle.era_text.specs.Dumps.{ReadAs}
+use Rattle.era_text.specs.FirstLine.{Head, Tells, blocks_in, is_geometry, start}
 use Rattle.era_text.specs.Grammar.{RefusedAt, Whole, dump_end, line_step, rest_end}
 use Rattle.era_text.specs.declared.dump_kind.DumpKind.TheVariants.{LongLine, Truncated}
 use Rattle.era_text.specs.declared.line_fault.LineFault.{LineFault}
@@ -88,6 +91,22 @@ FailsDump text left (Line line kind) = dump_end (lines_of text) ≡ RefusedAt li
 FailsDump text left (Source count) = EndsInside 128 text left ⊎ FailsBehind text left
 FailsDump text left (Sink count) = ⊥
 FailsDump text left Memory = Unit {0}
+
+-- A dump text was read as marks, and nothing of it is left.
+pub record ReadsDump (text : List ℕ) (left : Option (List ℕ)) (m : BlockMarks) : Type 0 where
+  pub read : ReadAs (lines_of text) m
+  pub none : left ≡ Some []
+
+-- What a first line may tell: a geometry of 64 bits, and an era of 32 bits that isn't 0.
+pub record IsHead (head : Head) : Type 0 where
+  pub begun : 0 < head.era
+  pub geometry : is_geometry head.sectors head.block_sectors ≡ true
+  pub sectors_fit : head.sectors < 2 ^ 64
+  pub era_fits : head.era < 2 ^ 32
+
+-- No run of what was read is past the end of the blocks.
+abbrev pub RunsAreWithin : Head → Reading → Type 0
+RunsAreWithin head reading = AreWithin (blocks_in head) reading.array reading.archive reading.blocks
 
 -- A line was taken, or nothing was where there was none.
 abbrev pub HasTaken : Head → Reading → Reading → Bool → Type 0

@@ -1,9 +1,9 @@
 //! Reads the next line of a dump text, and takes what it says. A line has at most 128 bytes.
 
 ghost use Rattle.std.specs.Prelude.{◌≡◌, ◌<◌, ◌≤◌, ℕ, List, IfOk, MatchResult, vec_len};
-ghost use Rattle.era_line.specs.Reading.{IsAhead};
+ghost use Rattle.era_line.specs.Reading.{IsAhead, LeavesRest};
 ghost use Rattle.era_text.specs.Taking.{head_of};
-ghost use Rattle.era_text.specs.ReadDumps.{FailsDump, FailsLine, FailsRest, Finishes, GivesLine, GoesOn, HasTaken, HasTextCause, ReadsHead, end_of};
+ghost use Rattle.era_text.specs.ReadDumps.{FailsDump, FailsLine, FailsRest, Finishes, GivesLine, GoesOn, HasTaken, HasTextCause, IsHead, ReadsHead, end_of};
 
 use crate::dump_head::DumpHead;
 use crate::dump_kind::DumpKind;
@@ -17,7 +17,7 @@ use era_line::{LineReader, Next, ReadError};
 use std::alloc::Global;
 
 /// The greatest number of bytes of a line.
-const LONGEST_LINE: usize = 128;
+pub const LONGEST_LINE: usize = 128;
 
 // Reads the next line, which has this number. Whether there is one.
 fn next_line<S: Source>(
@@ -31,6 +31,7 @@ fn next_line<S: Source>(
         (GivesLine text line.new.items lines.new (S.left source.new))
         (FailsLine number text (S.left source.new)) }
     ensures short { vec_len line.new ≤ 128 }
+    ensures leaves { LeavesRest (S.left source.old) (S.left source.new) }
     ensures cause { HasTextCause (S.faults source.old) (S.faults source.new) result }
 {
     match lines.next(source, line, LONGEST_LINE) {
@@ -65,7 +66,8 @@ pub fn read_head<S: Source>(
         → MatchResult result
         (λ head. ReadsHead text (head_of head) lines.new (S.left source.new))
         (FailsDump text (S.left source.new)) }
-    ensures begun { IfOk result (λ head. 0 < head.era) }
+    ensures fit { IfOk result (λ head. IsHead (head_of head)) }
+    ensures leaves { LeavesRest (S.left source.old) (S.left source.new) }
     ensures cause { HasTextCause (S.faults source.old) (S.faults source.new) result }
 {
     if !next_line(lines, source, line, 1)? {
@@ -110,6 +112,7 @@ pub fn read_next<S: Source>(
         (S.left source.new))
         (FailsRest (head_of head.now) count text reading.old (S.left source.new)) }
     ensures taken { IfOk result (HasTaken (head_of head.now) reading.old reading.new) }
+    ensures leaves { LeavesRest (S.left source.old) (S.left source.new) }
     ensures cause { HasTextCause (S.faults source.old) (S.faults source.new) result }
 {
     let number = count + 1;

@@ -1,6 +1,6 @@
 //! The first line of a dump text is taken, or refused by its first kind.
 
-ghost use Rattle.std.specs.Prelude.{◌≡◌, ◌≢◌, ◌<◌, ◌≤◌, [], ◌∷◌, length, IfOk, IfSome, IfNone};
+ghost use Rattle.std.specs.Prelude.{◌≡◌, ◌≢◌, ◌≤◌, [], ◌∷◌, length, IfSome, IfNone};
 ghost use Rattle.era_line.specs.Words.{words_of};
 ghost use Rattle.era_text.specs.FirstLine.{first_step, head_step, head_words_step};
 ghost use Rattle.era_text.specs.Taking.{TakesHead};
@@ -26,8 +26,7 @@ fn five_words(line: &[u8]) -> Option<((&[u8], &[u8]), (&[u8], &[u8], &[u8]))>
 
 // Takes the numbers of the first line.
 fn take_numbers(sectors: u64, size: u64, era: u32) -> Result<DumpHead, LineFault>
-    ensures told { TakesHead (head_step sectors size era) result }
-    ensures begun { IfOk result (λ head. 0 < head.era) }
+    ensures { TakesHead (head_step sectors size era) result }
 {
     let Ok(geometry) = Geometry::new(sectors, size) else {
         return Err(LineFault::Refused(DumpKind::BadGeometry));
@@ -41,8 +40,7 @@ fn take_numbers(sectors: u64, size: u64, era: u32) -> Result<DumpHead, LineFault
 /// Takes the first line, which isn't too long, or refuses it.
 pub fn take_first_line(line: &[u8]) -> Result<DumpHead, LineFault>
     requires { length line.now ≤ 128 }
-    ensures told { TakesHead (first_step line.now) result }
-    ensures begun { IfOk result (λ head. 0 < head.era) }
+    ensures { TakesHead (first_step line.now) result }
 {
     let Some((names, numbers)) = five_words(line) else {
         return Err(LineFault::Refused(DumpKind::Unknown));

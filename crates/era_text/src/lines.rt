@@ -1,32 +1,13 @@
 //! Gives the lines of a dump. It takes no memory.
 
-ghost use Rattle.std.specs.Prelude.{◌≡◌, ◌+◌, ◌∷◌, ◌++◌, [], codes, decimal};
+ghost use Rattle.std.specs.Prelude.{◌++◌, codes};
 ghost use Rattle.era_base.specs.Faults.{HasCause};
 ghost use Rattle.era_line.specs.TextBuffer.{Adds};
 ghost use Rattle.era_text.specs.DumpLines.{era_run_line, head_line, run_line, set_line};
-ghost use Rattle.era_text.specs.Pieces.{ended, pieces_text, lines_text_of};
+ghost use Rattle.era_text.specs.Pieces.{ended, lines_text_of};
 
 use era_base::{Failed, Geometry, Sink};
-use era_line::TextBuffer;
-use itoa::Buffer;
-
-/// Gives pieces of a text one after another, up to the first that the sink refuses.
-pub fn give_pieces<K: Sink>(
-    text: &mut TextBuffer,
-    sink: &mut K,
-    pieces: &[&[u8]],
-) -> Result<(), Failed>
-    ensures added { Adds (K.given sink.old) text.old (K.given sink.new) text.new
-        (pieces_text pieces.now) result }
-    ensures cause { HasCause (K.faults sink.old) (K.faults sink.new) result }
-{
-    for piece in pieces {
-        let Ok(()) = text.add(sink, piece) else {
-            return Err(Failed);
-        };
-    }
-    Ok(())
-}
+use era_line::{Part, TextBuffer, give_parts};
 
 /// Gives the first line, and the line before the array.
 pub fn give_head<K: Sink>(
@@ -40,20 +21,17 @@ pub fn give_head<K: Sink>(
         ++ codes "array\n") result }
     ensures cause { HasCause (K.faults sink.old) (K.faults sink.new) result }
 {
-    let mut sectors = Buffer::new();
-    let mut size = Buffer::new();
-    let mut present = Buffer::new();
-    give_pieces(
+    give_parts(
         text,
         sink,
         &[
-            b"eradump 1 ",
-            sectors.format(geometry.sectors()).as_bytes(),
-            b" ",
-            size.format(geometry.block_sectors()).as_bytes(),
-            b" ",
-            present.format(era).as_bytes(),
-            b"\narray\n",
+            Part::Text(b"eradump 1 "),
+            Part::Number(geometry.sectors()),
+            Part::Text(b" "),
+            Part::Number(u64::from(geometry.block_sectors())),
+            Part::Text(b" "),
+            Part::Number(u64::from(era)),
+            Part::Text(b"\narray\n"),
         ],
     )
 }
@@ -68,19 +46,16 @@ fn give_era_run<K: Sink>(
         (ended (era_run_line run)) result }
     ensures cause { HasCause (K.faults sink.old) (K.faults sink.new) result }
 {
-    let mut first = Buffer::new();
-    let mut last = Buffer::new();
-    let mut era = Buffer::new();
-    give_pieces(
+    give_parts(
         text,
         sink,
         &[
-            first.format(run.0).as_bytes(),
-            b" ",
-            last.format(run.1).as_bytes(),
-            b" ",
-            era.format(run.2).as_bytes(),
-            b"\n",
+            Part::Number(u64::from(run.0)),
+            Part::Text(b" "),
+            Part::Number(u64::from(run.1)),
+            Part::Text(b" "),
+            Part::Number(u64::from(run.2)),
+            Part::Text(b"\n"),
         ],
     )
 }
@@ -91,16 +66,14 @@ fn give_run<K: Sink>(text: &mut TextBuffer, sink: &mut K, run: (u32, u32)) -> Re
         (ended (run_line run)) result }
     ensures cause { HasCause (K.faults sink.old) (K.faults sink.new) result }
 {
-    let mut first = Buffer::new();
-    let mut last = Buffer::new();
-    give_pieces(
+    give_parts(
         text,
         sink,
         &[
-            first.format(run.0).as_bytes(),
-            b" ",
-            last.format(run.1).as_bytes(),
-            b"\n",
+            Part::Number(u64::from(run.0)),
+            Part::Text(b" "),
+            Part::Number(u64::from(run.1)),
+            Part::Text(b"\n"),
         ],
     )
 }
@@ -111,8 +84,15 @@ pub fn give_set_line<K: Sink>(text: &mut TextBuffer, sink: &mut K, era: u32) -> 
         (ended (set_line era)) result }
     ensures cause { HasCause (K.faults sink.old) (K.faults sink.new) result }
 {
-    let mut number = Buffer::new();
-    give_pieces(text, sink, &[b"set ", number.format(era).as_bytes(), b"\n"])
+    give_parts(
+        text,
+        sink,
+        &[
+            Part::Text(b"set "),
+            Part::Number(u64::from(era)),
+            Part::Text(b"\n"),
+        ],
+    )
 }
 
 /// Gives the lines of the runs of the array.

@@ -7,7 +7,7 @@ ghost use Rattle.era_text.specs.Pieces.{ended, lines_text_of, set_text, sets_tex
 ghost use Rattle.era_text.specs.Dumps.{AreSetRuns, dumped_marks};
 ghost use Rattle.era_text.specs.Written.{GivesDump, HasWriteCause};
 
-use crate::lines::{give_array, give_head, give_pieces, give_runs, give_set_line};
+use crate::lines::{give_array, give_head, give_runs, give_set_line};
 use crate::merge::fold;
 use crate::text_end::TextEnd;
 use era_base::{Failed, Geometry, Sink};

@@ -1,6 +1,7 @@
 use Rattle.std.proofs.Common.{rules}
 use Rattle.era_text.specs.Taking.{head_of}
 use Rattle.era_text.proofs.DumpSteps.{ends-head, fails-head, goes-head, refused-head}
+use Rattle.era_text.proofs.ReadValid.{first-read}
 use Rattle.era_text.proofs.dump_reader.read_head.Goals as goal
 
 pub returns-in_err-next_line-clause-told : goal.returns-in_err-next_line-clause-told
@@ -17,11 +18,14 @@ pub returns-in-Ok-clause-told : goal.returns-in-Ok-clause-told
 returns-in-Ok-clause-told g c = λ text ahead.
     goes-head text c.next_line.new.line.items c.next_line.new.lines (g.S.Source.left c.next_line.new.source) (head_of c.in-Ok.head)
     (rw c.if-not-branch.false at (c.in_ok-next_line.ensures.told text ahead))
-    (rw c.deref.ensures.value at c.in-Ok.ensures.told)
+    (rw c.deref.ensures.value at c.in-Ok.ensures)
+
+pub returns-in-Ok-clause-fit : goal.returns-in-Ok-clause-fit
+returns-in-Ok-clause-fit g c = first-read c.next_line.new.line.items (head_of c.in-Ok.head) (rw c.deref.ensures.value at c.in-Ok.ensures)
 
 pub returns-in-Err-clause-told : goal.returns-in-Err-clause-told
 returns-in-Err-clause-told g c = λ text ahead.
     rw c.end_at.ensures
     (refused-head text c.next_line.new.line.items c.next_line.new.lines (g.S.Source.left c.next_line.new.source) c.in-Err.fault
     (rw c.if-not-branch.false at (c.in_ok-next_line.ensures.told text ahead))
-    (rw c.deref.ensures.value at c.in-Err.ensures.told))
+    (rw c.deref.ensures.value at c.in-Err.ensures))

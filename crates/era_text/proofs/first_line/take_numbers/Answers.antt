@@ -1,12 +1,11 @@
-use Rattle.std.proofs.Common.{◌≡◌, ◌<◌, refl, ap, subst}
+use Rattle.std.proofs.Common.{◌<◌, refl, ap, subst}
 use Rattle.std.specs.Prelude.{Err}
 use Rattle.era_base.specs.declared.limits.TheConstants.{MOST_BLOCKS}
-use Rattle.era_base.specs.Geometry.{blocks_of}
 use Rattle.era_text.proofs.Geometries.{not-geometry}
 use Rattle.era_text.proofs.first_line.take_numbers.Goals as goal
 
-pub returns-in_default-clause-told : goal.returns-in_default-clause-told
-returns-in_default-clause-told c =
+pub returns-in_default : goal.returns-in_default
+returns-in_default c =
     let none = not-geometry c.args.sectors c.args.size c.in_default.field-0
     (λ is. c.in_default.ensures.block_size.0 (ap Err is))
     (λ is. (c.in_default.ensures.none.0 (ap Err is)).1)

@@ -1,5 +1,4 @@
-use Rattle.std.proofs.Common.{◌≡◌, arith}
-use Rattle.era_line.specs.Words.{words_of}
+use Rattle.std.proofs.Common.{arith}
 use Rattle.era_text.proofs.LineWords.{some-word}
 use Rattle.era_text.proofs.line_words.two_words.Goals as goal
 

@@ -1,7 +1,7 @@
 use Rattle.std.proofs.Common.{◌≡◌, take}
 use Rattle.era_text.specs.DumpLines.{era_run_line}
 use Rattle.era_text.specs.Pieces.{lines_text_of}
-use Rattle.era_text.proofs.Gives.{HasAdded}
+use Rattle.era_line.proofs.PartSteps.{HasAdded}
 use Rattle.era_text.proofs.lines.give_array.Given as goal
 
 -- those so far were added, and the sink has not failed

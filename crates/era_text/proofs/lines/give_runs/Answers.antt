@@ -1,5 +1,6 @@
 use Rattle.std.proofs.Common.{refl, ◌∙◌}
-use Rattle.era_text.proofs.Gives.{added-none, items-added, items-cut}
+use Rattle.era_line.proofs.PartSteps.{added-none}
+use Rattle.era_text.proofs.Gives.{items-added, items-cut}
 use Rattle.std.specs.Prelude.{ℕ}
 use Rattle.era_text.specs.DumpLines.{run_line}
 use Rattle.era_text.specs.Pieces.{ended}

@@ -1,6 +1,7 @@
 use Rattle.std.proofs.Common.{refl, ◌∙◌, subst}
 use Rattle.era_model.specs.declared.marked_set.MarkedSet.{MarkedSet}
-use Rattle.era_text.proofs.Gives.{HasAdded, HasCut, added-none, items-added, items-cut}
+use Rattle.era_line.proofs.PartSteps.{HasAdded, HasCut, added-none}
+use Rattle.era_text.proofs.Gives.{items-added, items-cut}
 use Rattle.era_text.specs.Pieces.{set_text}
 use Rattle.era_text.proofs.writer.give_sets.Goals as goal
 

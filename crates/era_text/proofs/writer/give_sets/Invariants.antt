@@ -1,6 +1,6 @@
 use Rattle.std.proofs.Common.{◌≡◌, take}
 use Rattle.era_text.specs.Pieces.{sets_text}
-use Rattle.era_text.proofs.Gives.{HasAdded}
+use Rattle.era_line.proofs.PartSteps.{HasAdded}
 use Rattle.era_text.proofs.writer.give_sets.Given as goal
 
 -- those so far were added, and the sink has not failed

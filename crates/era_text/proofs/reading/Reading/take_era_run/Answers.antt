@@ -1,4 +1,4 @@
-use Rattle.std.proofs.Common.{◌≡◌, ◌∙◌, sym}
+use Rattle.std.proofs.Common.{◌≡◌}
 use Rattle.std.specs.Prelude.{true}
 use Rattle.era_text.specs.FirstLine.{is_behind, last_of}
 use Rattle.era_text.proofs.PushedRuns.{stands-behind}

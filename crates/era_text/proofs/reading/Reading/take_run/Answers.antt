@@ -1,4 +1,4 @@
-use Rattle.std.proofs.Common.{◌≡◌, ◌∙◌, sym, ap}
+use Rattle.std.proofs.Common.{◌≡◌}
 use Rattle.std.specs.Prelude.{true}
 use Rattle.era_text.specs.FirstLine.{is_apart, last_of}
 use Rattle.era_text.proofs.PushedRuns.{ends-before}
