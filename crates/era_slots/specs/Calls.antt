@@ -1,9 +1,10 @@
 -- What the calls on the slots ask, and what each of them did, over the struct. A definition takes the members of the disk's trait, as `D.Disk`.
 use Rattle.std.specs.Prelude.{◌≡◌, ℕ, ◌+◌, ◌-◌, ◌*◌, ◌^◌, ◌<◌, ◌≤◌, ◌%◌, true, false, List, length, nat_lt, Result, IsOk, OnOk, OnErr}
 use Rattle.era_base.specs.Bytes.{part}
-use Rattle.era_base.specs.CrashModel.{State, IsClean}
+use Rattle.era_base.specs.CrashModel.{State, Stepped, IsClean, clock}
 use Rattle.era_base.specs.declared.disk.Disk.{Ghosts}
 use Rattle.era_base.specs.Calls.{Now, MakesCalls}
+use Rattle.era_base.specs.Faults.{Rose}
 use Rattle.era_slots.specs.declared.slots.Slots.{Slots}
 use Rattle.era_slots.specs.Slot.{other, gate_of, commit_number, body_of, closed_gate}
 use Rattle.era_slots.specs.Standing.{Stands}
@@ -88,3 +89,28 @@ pub record StoresBody {D : Type 0} (disk : Ghosts D) (content : List ℕ) (old n
 pub record FailsToStore {D : Type 0} (disk : Ghosts D) (content : List ℕ) (old new : Slots D) : Type 0 where
   pub failed : AtEnd disk (IsFailed old.target old.number new.may_be_open content) old.disk new.disk
   pub next : KeepsTarget old new
+
+-- Calls on a disk ended at a fault: so many were made, at least one and this many at most. The last of them is the first that failed: up to it the disk's count of faults was as at the beginning, and with it it rose.
+pub record FailedCall {D : Type 0} (disk : Ghosts D) (greatest : ℕ) (old new : D) : Type 0 where
+  pub calls : ℕ
+  pub some : 0 < calls
+  pub most : calls ≤ greatest
+  pub time : clock (disk.history new) ≡ clock (disk.history old) + calls
+  pub last : D
+  pub failed : Stepped (disk.history last) (disk.history new)
+  pub quiet : disk.faults last ≡ disk.faults old
+  pub rose : Rose (disk.faults last) (disk.faults new)
+
+-- A sync and the two reads behind it ended at a fault of one of the three. If that isn't the sync, nothing is pending.
+pub record FailedReading {D : Type 0} (disk : Ghosts D) (old new : D) : Type 0 where
+  pub place : FailedCall disk 3 old new
+  pub synced : 1 < place.calls → IsClean (disk.history new).now
+
+-- A sync and two reads failed at the place of one of them.
+abbrev pub FailsToRead : {D : Type 0} → Ghosts D → D → D → Type 0
+FailsToRead disk old new = disk.tells ≡ true → FailedReading disk old new
+
+-- One device call was made at least, and so many at most.
+abbrev pub MakesSomeCalls : {D : Type 0} → Ghosts D → ℕ → D → D → Type 0
+MakesSomeCalls disk most old new = disk.tells ≡ true → (clock (disk.history old) < clock (disk.history new))
+    × (clock (disk.history new) ≤ clock (disk.history old) + most)

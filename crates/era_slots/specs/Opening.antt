@@ -2,6 +2,9 @@
 use Rattle.std.specs.Prelude.{◌≡◌, ℕ, ◌<◌, ◌↔◌, true, false, List, length, Option, IsSome, IfSome, Result, Ok, Err, MatchOption, MatchResult, slice_index, drop}
 use Rattle.era_base.specs.CrashModel.{State, IsClean}
 use Rattle.era_base.specs.Faults.{Rose}
+use Rattle.era_base.specs.Calls.{MakesCalls}
+use Rattle.era_base.specs.declared.disk.Disk.{Ghosts}
+use Rattle.era_slots.specs.Calls.{FailsToRead}
 use Rattle.era_slots.specs.declared.slots.Slots.{Slots}
 use Rattle.era_slots.specs.declared.opened.Opened.{Opened}
 use Rattle.era_slots.specs.declared.opened.Opened.TheVariants.{Blank, Whole}
@@ -116,3 +119,15 @@ pub record AreRead (active : ℕ) (own beside : List ℕ) (now : State) : Type 0
 pub record AreBodies (active beside content : List ℕ) (older : Option (List ℕ)) : Type 0 where
   pub body : content ≡ drop 520 active
   pub beside_open : MatchOption older (¬ (slice_index beside 0 ≡ 1)) (λ bytes. (slice_index beside 0 ≡ 1) × (bytes ≡ drop 520 beside))
+
+-- The device calls of an opening that was refused: a sync and two reads, or those up to the one that failed.
+abbrev pub RefusesByCalls : {D : Type 0} → Ghosts D → SlotError → D → D → Type 0
+RefusesByCalls disk (Fault count) old new = FailsToRead disk old new
+RefusesByCalls disk (BadSequence slot) old new = MakesCalls disk 3 old new
+RefusesByCalls disk SequenceTie old new = MakesCalls disk 3 old new
+RefusesByCalls disk Memory old new = MakesCalls disk 3 old new
+
+-- The device calls of an opening: a sync and two reads, whatever they show, or those up to the one that failed.
+abbrev pub OpensByCalls : {D : Type 0} → Ghosts D → D → Result (Opened D) (SlotRefusal D) → Type 0
+OpensByCalls disk old (Ok opened) = MakesCalls disk 3 old (slots_of opened).disk
+OpensByCalls disk old (Err refusal) = RefusesByCalls disk refusal.error old refusal.disk

@@ -1,11 +1,11 @@
 //! Opens the slots of a disk.
 
-ghost use Rattle.std.specs.Prelude.{◌≡◌, ◌<◌, ◌≤◌, ℕ, List, length, IfOk, IfErr, OnOk, MatchResult};
+ghost use Rattle.std.specs.Prelude.{◌≡◌, ◌<◌, ◌≤◌, ℕ, List, length, IfOk, IfErr, MatchResult};
 ghost use Rattle.era_base.specs.CrashModel.{SameBut};
-ghost use Rattle.era_base.specs.Calls.{EachMoment, Now, MakesCalls, SameDisk};
+ghost use Rattle.era_base.specs.Calls.{EachMoment, Now, SameDisk};
 ghost use Rattle.era_slots.specs.Slot.{page_of, commit_number, IsCommitNumber};
 ghost use Rattle.era_slots.specs.Calls.{StandFor};
-ghost use Rattle.era_slots.specs.Opening.{slots_of, disk_opened, OpensOrRefuses, HasShape, HasFaultCause, AreBodies, AreRead, HasNumber, IsFoundIn};
+ghost use Rattle.era_slots.specs.Opening.{slots_of, disk_opened, OpensOrRefuses, OpensByCalls, HasShape, HasFaultCause, AreBodies, AreRead, HasNumber, IsFoundIn};
 
 use crate::heads::{Found, gate_is_open, head_of, judge};
 use crate::look::read_slots;
@@ -81,7 +81,8 @@ fn whole<D: Disk>(
 impl<D: Disk> Slots<D> {
     /// Syncs, then reads both slots of a disk of at least 3 metadata blocks of 4,096 bytes. It refuses a fault of the
     /// sync or of a read, then the first open slot whose commit number is 0 or at least 2^63, then two open slots of
-    /// one commit number, then want of memory for the bodies. Each refusal hands the disk back.
+    /// one commit number, then want of memory for the bodies. No call follows one that failed, and each other answer
+    /// comes after these three calls. Each refusal hands the disk back.
     pub fn open(alloc: Global, mut disk: D) -> Result<Opened<D>, SlotRefusal<D>>
         requires { 24 ≤ D.sectors disk }
         ensures moments { EachMoment D.Disk (SameBut 0 0) disk (disk_opened result) }
@@ -89,7 +90,7 @@ impl<D: Disk> Slots<D> {
             (λ opened. Now D.Disk (StandFor (slots_of opened)) (slots_of opened).disk) }
         ensures told { Now D.Disk (OpensOrRefuses result) (disk_opened result) }
         ensures shape { IfOk result HasShape }
-        ensures calls { OnOk result (MakesCalls D.Disk 3 disk (disk_opened result)) }
+        ensures calls { OpensByCalls D.Disk disk result }
         ensures disk { SameDisk D.Disk disk (disk_opened result) }
         ensures cause { MatchResult result
             (λ opened. D.faults (slots_of opened).disk ≡ D.faults disk)

@@ -2,8 +2,8 @@ use Rattle.std.proofs.Common.{◌+◌, arith, refl}
 use Rattle.era_base.proofs.Moments.{went-now}
 use Rattle.era_slots.specs.Wiping.{flag_count}
 use Rattle.era_slots.proofs.Gates.{went-wiped, is-second}
-use Rattle.era_slots.proofs.Counts.{wiped-calls}
-use Rattle.era_slots.proofs.Written.{on_ok}
+use Rattle.era_slots.proofs.Counts.{wiped-calls, wiped-some}
+use Rattle.era_slots.proofs.Written.{on_ok, on_either}
 use Rattle.era_slots.proofs.Wiped.{flags-read, wiped-synced}
 use Rattle.era_slots.proofs.wiping.close_read.Goals as goal
 
@@ -27,11 +27,17 @@ returns-then-first-eq0-clause-wiped g c =
 
 pub returns-then-first-eq0-clause-calls : goal.returns-then-first-eq0-clause-calls
 returns-then-first-eq0-clause-calls g c =
-    on_ok c.close_both.result
+    on_either c.close_both.result
     (λ calls told.
     let flags = (flags-read _ _ _ _ (g.D.Disk.history c.read_slots.new.disk).now c.read_slots.auto.first c.read_slots.auto.second (c.in_ok-read_slots.ensures.read told)
     c.gate_is_open-zero_is_open.ensures c.gate_is_open-one_is_open.ensures).0 in
     wiped-calls c.gate_is_open-zero_is_open.result c.gate_is_open-one_is_open.result _
+    (g.D.Disk.history c.args.disk.now) (g.D.Disk.history c.read_slots.new.disk) (g.D.Disk.history c.close_both.new.disk)
+    (c.read_slots.ensures.moments told) (c.in_ok-read_slots.ensures.calls told) flags.gate flags.beside refl (calls told))
+    (λ calls told.
+    let flags = (flags-read _ _ _ _ (g.D.Disk.history c.read_slots.new.disk).now c.read_slots.auto.first c.read_slots.auto.second (c.in_ok-read_slots.ensures.read told)
+    c.gate_is_open-zero_is_open.ensures c.gate_is_open-one_is_open.ensures).0 in
+    wiped-some c.gate_is_open-zero_is_open.result c.gate_is_open-one_is_open.result _
     (g.D.Disk.history c.args.disk.now) (g.D.Disk.history c.read_slots.new.disk) (g.D.Disk.history c.close_both.new.disk)
     (c.read_slots.ensures.moments told) (c.in_ok-read_slots.ensures.calls told) flags.gate flags.beside refl (calls told))
     c.close_both.ensures.calls
@@ -57,11 +63,18 @@ returns-else-first-eq0-clause-wiped g c =
 
 pub returns-else-first-eq0-clause-calls : goal.returns-else-first-eq0-clause-calls
 returns-else-first-eq0-clause-calls g c =
-    on_ok c.close_both-else-first-eq0.result
+    on_either c.close_both-else-first-eq0.result
     (λ calls told.
     let flags = (flags-read _ _ _ _ (g.D.Disk.history c.read_slots.new.disk).now c.read_slots.auto.first c.read_slots.auto.second (c.in_ok-read_slots.ensures.read told)
     c.gate_is_open-zero_is_open.ensures c.gate_is_open-one_is_open.ensures).1 in
     wiped-calls c.gate_is_open-zero_is_open.result c.gate_is_open-one_is_open.result
+    (flag_count c.gate_is_open-one_is_open.result + flag_count c.gate_is_open-zero_is_open.result)
+    (g.D.Disk.history c.args.disk.now) (g.D.Disk.history c.read_slots.new.disk) (g.D.Disk.history c.close_both-else-first-eq0.new.disk)
+    (c.read_slots.ensures.moments told) (c.in_ok-read_slots.ensures.calls told) flags.beside flags.gate (omega arith) (calls told))
+    (λ calls told.
+    let flags = (flags-read _ _ _ _ (g.D.Disk.history c.read_slots.new.disk).now c.read_slots.auto.first c.read_slots.auto.second (c.in_ok-read_slots.ensures.read told)
+    c.gate_is_open-zero_is_open.ensures c.gate_is_open-one_is_open.ensures).1 in
+    wiped-some c.gate_is_open-zero_is_open.result c.gate_is_open-one_is_open.result
     (flag_count c.gate_is_open-one_is_open.result + flag_count c.gate_is_open-zero_is_open.result)
     (g.D.Disk.history c.args.disk.now) (g.D.Disk.history c.read_slots.new.disk) (g.D.Disk.history c.close_both-else-first-eq0.new.disk)
     (c.read_slots.ensures.moments told) (c.in_ok-read_slots.ensures.calls told) flags.beside flags.gate (omega arith) (calls told))
