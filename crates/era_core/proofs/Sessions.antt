@@ -1,13 +1,17 @@
 -- Each session of a legal history is legal by itself.
 use Rattle.std.proofs.Common.{◌≡◌, true, List, [], ◌∷◌, refl, sym, ◌∙◌}
+use Rattle.era_model.specs.declared.entry.Entry.{Entry}
 use Rattle.era_model.specs.declared.history.Happening.{Happening}
 use Rattle.era_model.specs.declared.history.Happening.TheVariants.{Opened, Happened, Crashed}
+use Rattle.era_model.specs.declared.history.Images.{Images}
 use Rattle.era_model.specs.declared.opening.Opening.{Opening}
+use Rattle.era_model.specs.Crashes.{MayCrash}
 use Rattle.era_model.specs.History.{is_open}
+use Rattle.era_model.specs.Journal.{history_after}
 use Rattle.era_model.specs.Legal.{IsLegal, IsOpening}
 use Rattle.era_model.specs.Promises.{MarksFollowJournal}
 use Rattle.era_core.specs.Schedules.{session_of}
-use Rattle.era_core.proofs.Numbers.{may-same}
+use Rattle.era_core.proofs.Numbers.{crash-same, may-same}
 use Rattle.era_core.proofs.Words.{SaysSame, same-event, same-opened}
 
 -- the session says the same by itself
@@ -48,3 +52,31 @@ alone-legal follow (Happened event ∷ h) legal open_now = (
   alone-legal follow h legal.2 legal.0,
 )
 alone-legal follow (Crashed images ∷ h) legal open_now = absurd (cc)
+
+-- entries go on from a legal history
+legal-begun : (h : List Happening) (entries : List Entry) → IsLegal (history_after h entries) → IsLegal h
+legal-begun h [] legal = legal
+legal-begun h (entry ∷ entries) legal = (legal-begun (Happened entry.event ∷ h) entries legal).2
+
+-- entries that are legal behind one history are legal behind another one that says the same
+behind-same : (h h' : List Happening) (entries : List Entry) → SaysSame h h' → IsLegal h' → IsLegal (history_after h entries) → IsLegal (history_after h' entries)
+behind-same h h' [] same here legal = here
+behind-same h h' (entry ∷ entries) same here legal =
+    let first = legal-begun (Happened entry.event ∷ h) entries legal in
+    behind-same (Happened entry.event ∷ h) (Happened entry.event ∷ h') entries (same-event entry.event h h' same)
+    (sym same.ongoing ∙ first.0, may-same h h' entry.event same first.1, here) legal
+
+same-after : (h h' : List Happening) (entries : List Entry) → SaysSame h h' → SaysSame (history_after h entries) (history_after h' entries)
+same-after h h' [] same = same
+same-after h h' (entry ∷ entries) same = same-after (Happened entry.event ∷ h) (Happened entry.event ∷ h') entries (same-event entry.event h h' same)
+
+-- a session behind others
+pub legal-behind : (opening : Opening) (earlier : List Happening) (entries : List Entry) → IsLegal (Opened opening ∷ earlier) → IsLegal (history_after (Opened opening ∷ []) entries)
+    → IsLegal (history_after (Opened opening ∷ earlier) entries)
+legal-behind opening earlier entries here legal = behind-same (Opened opening ∷ []) (Opened opening ∷ earlier) entries (same-opened opening [] earlier) here legal
+
+pub crash-behind : (opening : Opening) (earlier : List Happening) (entries : List Entry) (images : Images) → MayCrash (history_after (Opened opening ∷ []) entries) images
+    → MayCrash (history_after (Opened opening ∷ earlier) entries) images
+crash-behind opening earlier entries images may =
+    crash-same (history_after (Opened opening ∷ []) entries) (history_after (Opened opening ∷ earlier) entries) images
+    (same-after (Opened opening ∷ []) (Opened opening ∷ earlier) entries (same-opened opening [] earlier)) may

@@ -1,14 +1,19 @@
 //! The theorem over all schedules: the machine makes legal histories, and it makes all of them. The functions do
 //! nothing; their clauses are the laws.
 
-ghost use Rattle.std.specs.Prelude.{◌≢◌, List, []};
+ghost use Rattle.std.specs.Prelude.{◌≢◌, List, [], ◌∷◌};
 ghost use Rattle.era_core.specs.AfterSteps.{after_step};
 ghost use Rattle.era_core.specs.Machine.{CoreState, IsEnabled};
 ghost use Rattle.era_core.specs.Schedules.{HasLegalSessions, IsSchedule, IsScheduled};
 ghost use Rattle.era_core.specs.declared.step.Step.{Step};
+ghost use Rattle.era_model.specs.Crashes.{MayCrash};
+ghost use Rattle.era_model.specs.Journal.{history_after};
 ghost use Rattle.era_model.specs.Legal.{IsLegal};
 ghost use Rattle.era_model.specs.Promises.{CoverageGoesOn, NoChangedBlockMissed, NoUnaskedBlockListed};
+ghost use Rattle.era_model.specs.declared.entry.Entry.{Entry};
+ghost use Rattle.era_model.specs.declared.history.Happening.TheVariants.{Opened};
 ghost use Rattle.era_model.specs.declared.history.Happening.{Happening};
+ghost use Rattle.era_model.specs.declared.history.Images.{Images};
 ghost use Rattle.era_model.specs.declared.opening.Opening.{Opening};
 
 use era_model::{
@@ -45,4 +50,16 @@ pub fn every_schedule_is_legal()
 /// numbers of the eras that were kept.
 pub fn every_legal_history_is_scheduled()
     ensures { (h : List Happening) → IsLegal h → h ≢ [] → IsScheduled h }
+{}
+
+/// A session that is legal by itself is legal behind other sessions as well, where it may open there, and what a crash
+/// may leave of it by itself it may leave there.
+pub fn sessions_stand_by_themselves()
+    ensures legal { (opening : Opening) (earlier : List Happening) (entries : List Entry)
+        → IsLegal (Opened opening ∷ earlier)
+        → IsLegal (history_after (Opened opening ∷ []) entries)
+        → IsLegal (history_after (Opened opening ∷ earlier) entries) }
+    ensures crash { (opening : Opening) (earlier : List Happening) (entries : List Entry)
+        (images : Images) → MayCrash (history_after (Opened opening ∷ []) entries) images
+        → MayCrash (history_after (Opened opening ∷ earlier) entries) images }
 {}

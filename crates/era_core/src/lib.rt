@@ -32,7 +32,9 @@ mod upkeep;
 mod validity;
 
 pub use era_model::Images;
-pub use laws::{every_legal_history_is_scheduled, every_schedule_is_legal};
+pub use laws::{
+    every_legal_history_is_scheduled, every_schedule_is_legal, sessions_stand_by_themselves,
+};
 pub use machine::Core;
 pub use running::run;
 pub use step::{CoreStop, Step};
