@@ -7,8 +7,8 @@
  * order word), leave (one is taken from the first word again). Before and behind each step stands a load of its word,
  * so there are six. All of it is sequentially consistent, and both words stand beside each other, as in one table.
  *
- * It answers one line: the nanoseconds of a round, median and spread of nine turns. It stands alone: the program has no
- * gate yet that could be measured beside it.
+ * It answers one line: the nanoseconds of a round, median and spread of nine turns. The program's gate makes the same
+ * steps; docs/PERFORMANCE.md tells what it took beside this.
  */
 #include <pthread.h>
 #include <stdatomic.h>

@@ -1,5 +1,5 @@
 -- A stripe and the keeper may draw the next place.
-use Rattle.std.proofs.Common.{◌≡◌, ℕ, zero, suc, ◌+◌, ◌-◌, ◌*◌, ◌%◌, ◌^◌, ◌<◌, ◌≤◌, ◌==◌, ◌||◌, Bool, true, false, None, List, [], ◌∷◌, set, slice_index, refl, sym, ap, ◌∙◌, subst, ⊎_elim, arith, get_or-set_same, get_or-set_other, eqb-true}
+use Rattle.std.proofs.Common.{◌≡◌, ℕ, zero, suc, ◌+◌, ◌-◌, ◌*◌, ◌%◌, ◌^◌, ◌<◌, ◌≤◌, ◌==◌, ◌||◌, Bool, true, false, None, List, [], ◌∷◌, ◌++◌, set, slice_index, refl, sym, ap, ◌∙◌, subst, ⊎_elim, arith, get_or-set_same, get_or-set_other, eqb-true}
 use Rattle.std.proofs.lemmas.Bool.{or_cases, MatchBool-at_true, MatchBool-at_false}
 use mathlib.Core.Option.{none, some, some-injective, some-ne-none}
 use lib.ListN.{get_elem?}
@@ -16,14 +16,16 @@ use Rattle.era_gate.specs.declared.parts.LanePart.{LanePart}
 use Rattle.era_gate.specs.declared.parts.PassPart.{PassPart}
 use Rattle.era_gate.specs.declared.parts.View.{View}
 use Rattle.era_gate.specs.declared.plan.Plan.{Plan}
-use Rattle.era_gate.specs.Acts.{Act, Account, stripe_drew, keeper_drew, after, places_after, flights, lane_of, has_go, found_of, count, inside_of, GateMayGo, StripeMayDraw, KeeperMayDraw, MayAct}
+use Rattle.era_gate.specs.Acts.{Act, Account, stripe_drew, keeper_drew, after, places_after, entry, flights, lane_of, has_go, found_of, count, inside_of, GateMayGo, StripeMayDraw, KeeperMayDraw, MayAct}
 use Rattle.era_gate.specs.Parts.{has_lane, stripe_with_pass, keeper_with_pass, view_after, budget_after, cleared_after}
 use Rattle.era_gate.specs.Rule.{Hidden, Standing, Ruled, StripeFits, LaneFits, Each, budgets}
 use Rattle.era_gate.specs.Calls.{has_seen, has_gone, GoAsks, StripeAsks, KeeperAsks, PassAsks}
+use Rattle.era_gate.specs.Places.{AscendFrom}
 use Rattle.era_gate.specs.Plays.{Draws, KeeperDraws, drew, keeper_drawn}
 use Rattle.era_gate.proofs.Choices.{self_eq, clash, count_agrees}
 use Rattle.era_gate.proofs.Accounts.{IsSound, inside_same, marked_switched}
 use Rattle.era_gate.proofs.Touching.{Owns}
+use Rattle.era_gate.proofs.Ascending.{next-place, stripe-next, keeper-next}
 use Rattle.era_gate.proofs.Fitting.{hidden_after}
 use Rattle.era_gate.proofs.Frames.{sound_of, act_moves, low_words, lane_owned}
 
@@ -152,8 +154,9 @@ draw_allows plan slots id p q event asks pass s ruled homes at small =
     let stands = draw_stands plan s.words s.views m id v x st at may owns draw pass.1 in
     let order = st.order in
     let low = fit.floor in
+    let ascend = subst (λ place. AscendFrom 0 (p.state.entries ++ entry place event ∷ [])) (sym order) (stripe-next plan.era (hidden_after m x).acts m.account p.stripe event p.state stands.1.account_is h.state) in
     let is : view_after x m.account.places m.account.keeper.era v ≡ drew event n v = draw_view p q event m.account.places m.account.keeper.era ∙ ap (λ place. drew event place v) (sym order) in
-    (drew event n v, keeps, tt, (hidden_after m x, subst (λ (w : View). Standing plan (set s.words 1 ((n + 1) % 2 ^ 64)) (set s.views id w) (hidden_after m x)) is stands.1), (refl, omega arith, stands.0))
+    (drew event n v, keeps, tt, (hidden_after m x, subst (λ (w : View). Standing plan (set s.words 1 ((n + 1) % 2 ^ 64)) (set s.views id w) (hidden_after m x)) is stands.1), (refl, next-place n q.floor event p.state.entries (omega arith) stands.0 ascend))
 
 pub keeper_draw_allows : (plan : Plan) (slots id : ℕ) (p : KeeperPart) (q : PassPart) (event : Event) → KeeperAsks event p → PassAsks event q
     → Allows (Ruled plan) slots id (keeper_with_pass p q, []) 1 (λ n. (n + 1) % 2 ^ 64) (KeeperDraws event (step slots 1 1 0 none) (keeper_with_pass p q, []))
@@ -175,5 +178,6 @@ keeper_draw_allows plan slots id p q event asks pass s ruled homes at small =
     let stands = draw_stands plan s.words s.views m id v x st at may owns draw pass.1 in
     let order = st.order in
     let low = fit.floor in
+    let ascend = subst (λ place. AscendFrom 0 (p.state.entries ++ entry place event ∷ [])) (sym order) (keeper-next plan.era (hidden_after m x).acts m.account event p.state stands.1.account_is h.state) in
     let is : view_after x m.account.places m.account.keeper.era v ≡ keeper_drawn event n v = ap (λ place. keeper_drawn event place v) (sym order) in
-    (keeper_drawn event n v, keeps, tt, (hidden_after m x, subst (λ (w : View). Standing plan (set s.words 1 ((n + 1) % 2 ^ 64)) (set s.views id w) (hidden_after m x)) is stands.1), (refl, omega arith, stands.0))
+    (keeper_drawn event n v, keeps, tt, (hidden_after m x, subst (λ (w : View). Standing plan (set s.words 1 ((n + 1) % 2 ^ 64)) (set s.views id w) (hidden_after m x)) is stands.1), (refl, next-place n q.floor event p.state.entries (omega arith) stands.0 ascend))

@@ -1,5 +1,5 @@
 -- Stripes and keeper have just what was drawn, in the order of places; and what is said of their entries is said of the acts.
-use Rattle.std.proofs.Common.{◌≡◌, ℕ, ◌+◌, ◌<◌, ◌≤◌, ◌⊎◌, ◌==◌, List, [], ◌∷◌, inl, inr, refl, sym, subst, arith, eq-eqb}
+use Rattle.std.proofs.Common.{◌≡◌, ℕ, ◌+◌, ◌<◌, ◌⊎◌, ◌==◌, List, [], ◌∷◌, inl, inr, refl, sym, subst, arith, eq-eqb}
 use Rattle.std.specs.Prelude.{All, Contains}
 use Rattle.std.proofs.lemmas.Bool.{cond_both}
 use Rattle.std.proofs.lemmas.List.Elements.{All-head, All-tail, All-weaker, All-contains_itself}
@@ -7,7 +7,7 @@ use Rattle.era_model.specs.declared.entry.Entry.{Entry}
 use Rattle.era_model.specs.declared.event.Event.{Event}
 use Rattle.era_gate.specs.Acts.{Act, Account, stripe_drew, keeper_drew, stay_began, stay_ended, era_moved, exchange_failed, after, reach, opened, entry, IsLegalFrom}
 use Rattle.era_gate.specs.Drawn.{drawn, drawn_by_stripe, drawn_by_keeper}
-use Rattle.era_gate.specs.Gathered.{AreGathered, AreOwnWrites, AscendFrom, IsOfDrawer}
+use Rattle.era_gate.specs.Gathered.{AreGathered, AreOwnWrites, IsOfDrawer}
 use Rattle.era_gate.specs.ModelLaw.{IsOwnWrite}
 use Rattle.era_gate.proofs.AgreesMeets.{AreOwnActs, drawn-numbered}
 use Rattle.era_gate.proofs.DrawnEntries.{stripe-drawn, keeper-drawn, places-drawn}
@@ -56,33 +56,6 @@ all-have_drawers n era acts legal = All-weaker (Contains (drawn 0 acts)) (IsOfDr
       | inr of_keeper ↦ inr (subst (λ (es : List Entry). Contains es e) (sym (keeper-drawn (opened era) acts)) of_keeper)
     ])
     (drawn 0 acts) (All-contains_itself (drawn 0 acts))
-
--- entries that ascend do so from an earlier place
-ascend-earlier : (place later : ℕ) (es : List Entry) → place ≤ later → AscendFrom later es → AscendFrom place es
-ascend-earlier place later [] le ascend = tt
-ascend-earlier place later (e ∷ es) le ascend = let above : later ≤ e.place = ascend.0 in (omega arith, ascend.1)
-
--- a stripe's entries ascend, and the keeper's
-pub stripe-ascend : (d place : ℕ) (acts : List Act) → AscendFrom place (drawn_by_stripe d place acts)
-stripe-ascend d place [] = tt
-stripe-ascend d place (stripe_drew k event ∷ acts) =
-    let rest = stripe-ascend d (place + 1) acts in
-    cond_both (d == k) (entry place event ∷ drawn_by_stripe d (place + 1) acts) (drawn_by_stripe d (place + 1) acts) (AscendFrom place)
-    (λ on. (omega arith, rest)) (λ off. ascend-earlier place (place + 1) (drawn_by_stripe d (place + 1) acts) (omega arith) rest)
-stripe-ascend d place (keeper_drew event ∷ acts) = ascend-earlier place (place + 1) (drawn_by_stripe d (place + 1) acts) (omega arith) (stripe-ascend d (place + 1) acts)
-stripe-ascend d place (act ∷ acts) = stripe-ascend d place acts
-
-pub keeper-ascend : (place : ℕ) (acts : List Act) → AscendFrom place (drawn_by_keeper place acts)
-keeper-ascend place [] = tt
-keeper-ascend place (stripe_drew k event ∷ acts) = ascend-earlier place (place + 1) (drawn_by_keeper (place + 1) acts) (omega arith) (keeper-ascend (place + 1) acts)
-keeper-ascend place (keeper_drew event ∷ acts) = (omega arith, keeper-ascend (place + 1) acts)
-keeper-ascend place (act ∷ acts) = keeper-ascend place acts
-
-pub stripe-ascends : (d era : ℕ) (acts : List Act) → AscendFrom 0 ((reach (opened era) acts).stripe d).entries
-stripe-ascends d era acts = subst (AscendFrom 0) (sym (stripe-drawn d (opened era) acts)) (stripe-ascend d 0 acts)
-
-pub keeper-ascends : (era : ℕ) (acts : List Act) → AscendFrom 0 (reach (opened era) acts).keeper.entries
-keeper-ascends era acts = subst (AscendFrom 0) (sym (keeper-drawn (opened era) acts)) (keeper-ascend 0 acts)
 
 -- gathered entries are just what was drawn
 pub gathered-drawn : (n era : ℕ) (acts : List Act) (entries : List Entry) → AreGathered n (reach (opened era) acts) entries → entries ≡ drawn 0 acts

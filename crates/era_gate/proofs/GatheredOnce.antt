@@ -9,7 +9,7 @@ use Rattle.era_gate.specs.Drawn.{drawn_by_stripe, drawn_by_keeper}
 use Rattle.era_gate.specs.Gathered.{AscendFrom}
 use Rattle.era_gate.proofs.DrawnEntries.{stripe-drawn, keeper-drawn}
 use Rattle.era_gate.proofs.GatheredEntries.{front-cases, not-in_none}
-use Rattle.era_gate.proofs.GatheredDrawers.{stripe-ascend, keeper-ascend}
+use Rattle.era_gate.proofs.Ascending.{stripe-ascend, keeper-ascend}
 
 -- entries that ascend have no smaller place
 ascend-above : (place : ℕ) (es : List Entry) (e : Entry) → AscendFrom place es → Contains es e → place ≤ e.place

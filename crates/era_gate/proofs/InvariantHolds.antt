@@ -1,15 +1,12 @@
 -- The eleven clauses of the invariant, from the rule.
 use Rattle.std.proofs.Common.{◌≡◌, ℕ, ◌+◌, ◌*◌, ◌<◌, ◌≤◌, cond, true, false, List, [], ◌∷◌, length, slice_index, Option, Some, None, refl, sym, ap, ◌∙◌, subst, inl, inr, arith, eq-eqb}
-use Rattle.std.specs.Prelude.{All, Contains, IfSome, filter, map}
+use Rattle.std.specs.Prelude.{Contains, filter, map}
 use Rattle.std.proofs.lemmas.Bool.{cases_Bool, cases_lt}
-use Rattle.std.proofs.lemmas.List.Elements.{All-head, All-tail}
 use Rattle.era_model.specs.declared.entry.Entry.{Entry}
 use Rattle.era_model.specs.declared.event.Event.TheVariants.{Mark, Go, Roll}
 use Rattle.era_model.specs.declared.flight.FlightWrite.{FlightWrite}
 use Rattle.era_gate.specs.declared.states.StripeState.{StripeState}
 use Rattle.era_gate.specs.declared.states.KeeperState.{KeeperState}
-use Rattle.era_gate.specs.declared.stays.Miss.{Miss}
-use Rattle.era_gate.specs.declared.stays.Told.{Told}
 use Rattle.era_gate.specs.declared.stays.Receipt.{Receipt}
 use Rattle.era_gate.specs.declared.parts.StripePart.{StripePart}
 use Rattle.era_gate.specs.declared.parts.LanePart.{LanePart}
@@ -18,11 +15,11 @@ use Rattle.era_gate.specs.declared.plan.Plan.{Plan}
 use Rattle.era_gate.specs.Acts.{Account, reach, opened, entry, lane_of, count, inside_of}
 use Rattle.era_gate.specs.Drawn.{drawn}
 use Rattle.era_gate.specs.Gathered.{AscendFrom}
-use Rattle.era_gate.specs.Invariant.{all_stripes, all_keepers, all_lanes, keeper_entries, stripe_stays, gate_era, is_inside, IsMarked, GateWordCountsInside, NumbersDenseAndUnique, SetBitsHaveMarks, MarksPrecedeWrites, OpenWriteIsOf, StaysInEra, WritesStayInEra, OutsideHoldsNothing, SpareIsClear, KeptHaveFailedExchanges, ReceiptsAreConserved, StaysAreKnown, IsAccounted, IsAccountedNow, StaysAccountForKept, GateInvariant}
-use Rattle.era_gate.specs.Loose.{AreStaysOf, is_loose, loose_in, stays_of, kept_in, place_and_count}
+use Rattle.era_gate.specs.Invariant.{all_stripes, all_keepers, all_lanes, keeper_entries, stripe_stays, gate_era, is_inside, IsMarked, GateWordCountsInside, NumbersDenseAndUnique, SetBitsHaveMarks, MarksPrecedeWrites, OpenWriteIsOf, StaysInEra, WritesStayInEra, OutsideHoldsNothing, SpareIsClear, KeptHaveFailedExchanges, ReceiptsAreConserved, StaysAccountForKept, GateInvariant}
+use Rattle.era_gate.specs.Loose.{stays_of, kept_in, place_and_count}
 use Rattle.era_gate.specs.Parts.{has_stripe}
 use Rattle.era_gate.specs.Receipts.{entries_in, entries_for, stays_in, stays_at, stays_for}
-use Rattle.era_gate.specs.Rule.{Hidden, Standing, Fits, StripeFits, Each, weight, block_bit}
+use Rattle.era_gate.specs.Rule.{Hidden, Standing, Fits, StripeFits, Each, block_bit}
 use Rattle.era_gate.proofs.Accounts.{IsSound}
 use Rattle.era_gate.proofs.AgreesMeets.{drawn-numbered}
 use Rattle.era_gate.proofs.AgreesWrites.{flies}
@@ -35,7 +32,8 @@ use Rattle.era_gate.proofs.Frames.{sound_of, lane_owned}
 use Rattle.era_gate.proofs.InvariantActs.{IsIssued, era-bound, open-era, all-issued, opened-no_stays, lane-ascends, lane-entry, entry-of_lane, numbered-at}
 use Rattle.era_gate.proofs.InvariantOnce.{issued-once}
 use Rattle.era_gate.proofs.InvariantParts.{FitFrom, fit-from, StripeShows, KeeperShows, LaneShows, stripes-show, keepers-show, lanes-show, views-keep, all-distinct, has-among, has-keepers, sum-whole}
-use Rattle.era_gate.proofs.InvariantSums.{count-total, loose-total, inside-sum, stays-sum, stays-flat}
+use Rattle.era_gate.proofs.InvariantStays.{stays-account_for}
+use Rattle.era_gate.proofs.InvariantSums.{count-total, inside-sum, stays-flat}
 use Rattle.era_gate.proofs.InvariantViews.{stripe-entry, keeper-entry, keeper-has, stripe-drew, drawn-stands, stands-drawn, stands-of, one-view}
 use Rattle.era_gate.proofs.LaneReceipts.{opened-entries, opened-stays}
 use Rattle.era_gate.proofs.LooseTold.{KeepsStays, legal-keeps_stays}
@@ -217,35 +215,8 @@ module _ (plan : Plan) (words : List ℕ) (views : List View) (m : Hidden) (st :
     budget = let all = st.budget in let order = st.order in omega (arith, all, order);
   }
 
-  -- a bound by the account's stays is one by those of all views
-  accounted : (place : ℕ) (miss : Miss) → miss.found ≤ loose_in plan.stripes place miss.ended (stays_of m.account) → IsAccounted views place miss
-  accounted place miss bounded =
-      let sum = loose-total plan.stripes place miss.ended (stays_of m.account) in
-      let parts = sum-whole plan.stripes (λ d. length (filter (is_loose place miss.ended) (stays_of m.account d))) (all_stripes views) (all-distinct plan m 0 views fits) low seats in
-      let all = stays-sum plan m (is_loose place miss.ended) (all_stripes views) shown in
-      omega (arith, bounded, sum, parts, all)
-
-  told-each : (told : List Told) → All (λ (t : Told). t.miss.found ≤ loose_in plan.stripes t.place t.miss.ended (stays_of m.account)) told → Each (λ (t : Told). IsAccounted views t.place t.miss) told
-  told-each [] are = tt
-  told-each (t ∷ told) are = (
-    accounted t.place t.miss (All-head (λ (t : Told). t.miss.found ≤ loose_in plan.stripes t.place t.miss.ended (stays_of m.account)) t told are),
-    told-each told (All-tail (λ (t : Told). t.miss.found ≤ loose_in plan.stripes t.place t.miss.ended (stays_of m.account)) t told are),
-  )
-
-  pending-now : (pending : Option Miss) → IfSome pending (λ (miss : Miss). miss.found ≤ loose_in plan.stripes m.account.places miss.ended (stays_of m.account)) → IsAccountedNow words views pending
-  pending-now None is = tt
-  pending-now (Some miss) is = rw st.order (accounted m.account.places miss is)
-
   pub account_for : StaysAccountForKept words views
-  account_for = record {
-    known = all_map (StripeShows plan m) (StaysAreKnown words views) (all_stripes views) (λ part h. record {
-      own = rw st.order (subst (λ (s : StripeState). AreStaysOf part.stripe m.account.places 0 s.stays) h.1.state (stays.stays part.stripe));
-      begun = views-keep plan m 0 _ views (λ id view fit. subst (λ (s : StripeState). slice_index view.pass.begun part.stripe ≤ length s.stays) h.1.state (fit.begun part.stripe)) fits;
-      ended = views-keep plan m 0 _ views (λ id view fit. subst (λ (s : StripeState). slice_index view.pass.ended part.stripe + weight s.inside ≤ length s.stays) h.1.state (fit.ended part.stripe)) fits;
-    }) shown;
-    told = all_map (KeeperShows m) _ (all_keepers views) (λ part h. told-each part.state.told (subst (λ (k : KeeperState). All (λ (t : Told). t.miss.found ≤ loose_in plan.stripes t.place t.miss.ended (stays_of m.account)) k.told) h.1.state stays.told)) keepers;
-    pending = all_map (KeeperShows m) _ (all_keepers views) (λ part h. pending-now part.state.pending (subst (λ (k : KeeperState). IfSome k.pending (λ (miss : Miss). miss.found ≤ loose_in plan.stripes m.account.places miss.ended (stays_of m.account))) h.1.state stays.pending)) keepers;
-  }
+  account_for = stays-account_for plan words views m st fits shown keepers stays low seats
 
   -- all eleven
   pub holds : GateInvariant plan words views

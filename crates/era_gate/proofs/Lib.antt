@@ -6,6 +6,8 @@ mod Fitting
 mod Frames
 mod Entering
 mod Drawing
+mod DrawnEntries
+mod Ascending
 mod Bitmaps
 mod Exchanging
 mod Splitting
@@ -16,13 +18,13 @@ mod PassCuts
 mod PassKept
 mod Learning
 mod Closing
+mod Showing
 mod Passing
 mod Making
 mod AgreesWrites
 mod AgreesOnce
 mod Agrees
 mod AgreesMeets
-mod DrawnEntries
 mod LooseStays
 mod LooseTold
 mod GatheredEntries
@@ -38,6 +40,7 @@ mod InvariantActs
 mod InvariantOnce
 mod InvariantSums
 mod InvariantViews
+mod InvariantStays
 mod InvariantHolds
 mod Collected
 mod Reached

@@ -1,5 +1,5 @@
 -- Journals that are gathered from the entries of stripes and of the keeper.
-use Rattle.std.specs.Prelude.{◌≡◌, ◌⊎◌, ℕ, ◌+◌, ◌<◌, ◌≤◌, List, [], ◌∷◌, length, All, Contains}
+use Rattle.std.specs.Prelude.{◌≡◌, ◌⊎◌, ℕ, ◌<◌, List, [], ◌∷◌, length, All, Contains}
 use Rattle.era_model.specs.declared.entry.Entry.{Entry}
 use Rattle.era_model.specs.declared.history.Happening.{Happening}
 use Rattle.era_model.specs.declared.history.Happening.TheVariants.{Happened}
@@ -7,6 +7,7 @@ use Rattle.era_model.specs.Journal.{AreNumberedFrom}
 use Rattle.era_model.specs.declared.opening.Opening.{Opening}
 use Rattle.era_gate.specs.Acts.{Act, Account, IsLegalFrom, opened, reach}
 use Rattle.era_gate.specs.ModelLaw.{IsLeft, IsOwnWrite, stripe_at}
+pub use Rattle.era_gate.specs.Places.{AscendFrom}
 
 -- An entry is among those of one of n stripes, or of the keeper.
 abbrev pub IsOfDrawer : ℕ → Account → Entry → Type 0
@@ -35,8 +36,3 @@ pub record AreActsOf (opening : Opening) (acts : List Act) : Type 0 where
 abbrev pub AllMeetRest : List Happening → List Entry → Type 0
 AllMeetRest h [] = Unit {0}
 AllMeetRest h (entry ∷ entries) = IsLeft h entry.event × AllMeetRest (Happened entry.event ∷ h) entries
-
--- Places ascend, the first of them at least this one.
-abbrev pub AscendFrom : ℕ → List Entry → Type 0
-AscendFrom place [] = Unit {0}
-AscendFrom place (entry ∷ entries) = (place ≤ entry.place) × AscendFrom (entry.place + 1) entries

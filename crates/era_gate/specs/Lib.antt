@@ -3,6 +3,7 @@ pub mod StateAfter
 pub mod Acts
 pub mod Drawn
 pub mod Eras
+pub mod Places
 pub mod Gathered
 pub mod Loose
 pub mod ModelLaw

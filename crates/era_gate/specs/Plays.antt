@@ -13,6 +13,7 @@ use Rattle.era_gate.specs.declared.parts.View.{View}
 use Rattle.era_base.specs.Flags.{tabulate}
 use Rattle.era_gate.specs.Parts.{new_stripe, new_keeper, stripe_with_pass, keeper_with_pass, stripe_in_view, keeper_in_view, no_pass}
 use Rattle.era_gate.specs.declared.plan.Plan.{Plan}
+use Rattle.era_gate.specs.Places.{IsNextPlace}
 use Rattle.era_gate.specs.Rule.{IsPlan}
 use Rattle.era_gate.specs.Calls.{stay_of, enters, pass_enters, sees, leaves, pass_leaves, draws, keeper_draws, pass_draws, clears, moves, fails}
 
@@ -78,13 +79,15 @@ Enters id s me found me' = me' ≡ (entered id found me.0, me.1)
 abbrev pub Leaves : Step (Unit {0}) → Sat → ℕ → Sat → Type 0
 Leaves s me found me' = me' ≡ (left me.0, me.1)
 
--- A draw: the place is the number found, at least the pass's floor, and below all draws together.
+-- A draw: the place is the number found, and the next one for the stripe.
 abbrev pub Draws : Event → Step (Unit {0}) → Sat → ℕ → Sat → Type 0
-Draws event s me found me' = (me' ≡ (drew event found me.0, me.1)) × (me.0.pass.floor ≤ found) × (found < 1152921504606846976)
+Draws event s me found me' =
+    (me' ≡ (drew event found me.0, me.1)) × IsNextPlace found me.0.pass.floor (part_of me.0).state.entries (part_of (drew event found me.0)).state.entries
 
 -- A draw of the keeper.
 abbrev pub KeeperDraws : Event → Step (Unit {0}) → Sat → ℕ → Sat → Type 0
-KeeperDraws event s me found me' = (me' ≡ (keeper_drawn event found me.0, me.1)) × (me.0.pass.floor ≤ found) × (found < 1152921504606846976)
+KeeperDraws event s me found me' =
+    (me' ≡ (keeper_drawn event found me.0, me.1)) × IsNextPlace found me.0.pass.floor (keeper_of me.0).state.entries (keeper_of (keeper_drawn event found me.0)).state.entries
 
 -- A look at the word of a block's bit.
 abbrev pub Looks : ℕ → Step (Unit {0}) → Sat → ℕ → Sat → Type 0
@@ -146,6 +149,10 @@ with_stripes parts view = record { stripes = parts; keepers = keeper_of view ∷
 -- The keeper's seat, maybe with stripes' parts and a pass in it.
 abbrev pub IsGathered : Sat → Type 0
 IsGathered me = me ≡ (with_stripes me.0.stripes me.0, [])
+
+-- The keeper's seat with one stripe's part in it, and maybe a pass.
+abbrev pub IsKeeperWithStripe : Sat → Type 0
+IsKeeperWithStripe me = me ≡ (with_stripes (part_of me.0 ∷ []) me.0, [])
 
 -- The view of a seat that takes in a stripe: the stripe's part in front.
 abbrev pub with_stripe : View → View → View

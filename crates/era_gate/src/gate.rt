@@ -1,9 +1,10 @@
 //! The calls of a gate. Each makes one atomic step, and none waits, takes memory or takes a runtime.
 
-ghost use Rattle.std.specs.Prelude.{◌≡◌, ℕ, ◌+◌, ◌≤◌, ◌<◌, ◌^◌, true, false, None};
+ghost use Rattle.std.specs.Prelude.{◌≡◌, ◌+◌, ◌<◌, ◌^◌, true, false, None};
 ghost use Rattle.era_base.specs.declared.ids.CmdId.{CmdId};
 ghost use Rattle.era_gate.specs.Calls.{has_lane, has_mark, stay_of, enters, pass_enters, sees, leaves, pass_leaves, draws, keeper_draws, pass_draws, clears, StripeAsks, KeeperAsks, PassAsks};
 ghost use Rattle.era_gate.specs.Passes.{KeepsPass, KnowsEnded, HasMarks, no_write};
+ghost use Rattle.era_gate.specs.Places.{IsNextPlace};
 ghost use Rattle.era_gate.specs.Rolls.{rolls, IsAnswer};
 ghost use Rattle.era_model.specs.Events.{is_go_of};
 
@@ -76,7 +77,8 @@ impl Gate {
         has_bit_at(found, block % 64)
     }
 
-    /// The stripe draws the next place for an event. The lane of the command that draws has the receipt.
+    /// The stripe draws the next place for an event: it is above the places of all the seat's entries. The lane of the
+    /// command that draws has the receipt.
     pub fn draw_stripe(&self, seat: &mut StripeSeat, pass: &mut Pass, event: &Event) -> u64
         requires tables { (seat.old.table ≡ self.now.table) × (pass.old.table ≡ self.now.table) }
         requires may { StripeAsks event.now seat.old.part pass.old.part.lanes }
@@ -89,7 +91,8 @@ impl Gate {
           table = pass.old.table;
           part = pass_draws pass.old.part event.now result;
         } }
-        ensures floor { (pass.old.part.floor ≤ result) × (result < 2 ^ 60) }
+        ensures place { IsNextPlace result pass.old.part.floor
+            seat.old.part.state.entries seat.new.part.state.entries }
         ensures keeps { KeepsPass 1 (λ id. is_go_of id event.now) pass.old pass.new }
     {
         steps::take_in(&self.board, &mut seat.place, &mut pass.badge);
@@ -98,7 +101,8 @@ impl Gate {
         place
     }
 
-    /// The keeper draws the next place for an event. The lane of the command that draws has the receipt.
+    /// The keeper draws the next place for an event: it is above the places of all the seat's entries. The lane of the
+    /// command that draws has the receipt.
     pub fn draw_keeper(&self, seat: &mut KeeperSeat, pass: &mut Pass, event: &Event) -> u64
         requires tables { (seat.old.table ≡ self.now.table) × (pass.old.table ≡ self.now.table) }
         requires may { KeeperAsks event.now seat.old.part }
@@ -111,7 +115,8 @@ impl Gate {
           table = pass.old.table;
           part = pass_draws pass.old.part event.now result;
         } }
-        ensures floor { (pass.old.part.floor ≤ result) × (result < 2 ^ 60) }
+        ensures place { IsNextPlace result pass.old.part.floor
+            seat.old.part.state.entries seat.new.part.state.entries }
         ensures keeps { KeepsPass 1 (λ id. is_go_of id event.now) pass.old pass.new }
         ensures marks { HasMarks event.now seat.old.part.state.entries seat.new.part.state.entries }
     {

@@ -16,6 +16,7 @@ mod plan;
 mod plays;
 mod rolled;
 mod seats;
+mod shows;
 pub mod state_laws;
 mod states;
 mod stays;

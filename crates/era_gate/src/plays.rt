@@ -185,3 +185,19 @@ impl Split<View> for Learn {
 
     ghost right = { λ view. pass_view (learns view.pass (part_of view)) };
 }
+
+/// The first stripe goes to a seat of its own, and has seen the block of that number.
+pub(crate) struct Show<B> {
+    of: PhantomData<B>,
+}
+
+impl<B: About> Split<View> for Show<B> {
+    ghost use Rattle.std.specs.Prelude.{true};
+    ghost use Rattle.era_gate.specs.Calls.{sees};
+    ghost use Rattle.era_gate.specs.Parts.{stripe_view};
+    ghost use Rattle.era_gate.specs.Plays.{part_of, without_stripe};
+
+    ghost left = { without_stripe };
+
+    ghost right = { λ view. stripe_view (sees (part_of view) true B.number) };
+}

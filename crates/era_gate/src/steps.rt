@@ -4,6 +4,7 @@ ghost use Rattle.std.specs.Prelude.{◌≡◌, ◌≢◌, ◌+◌, ◌*◌, ◌/
 ghost use Rattle.era_base.specs.Bits.{bit_of};
 ghost use Rattle.era_gate.specs.Calls.{StripeAsks, KeeperAsks, PassAsks, has_mark};
 ghost use Rattle.era_gate.specs.Parts.{has_lane, pass_view, pass_in, keeper_with_pass};
+ghost use Rattle.era_gate.specs.Places.{IsNextPlace};
 ghost use Rattle.era_gate.specs.Plays.{IsStripeAt, IsKeeperAt, MayExchange, part_of, keeper_of, entered, left, drew, keeper_drawn, looked, cleared_to, exchanged_part, without_pass, with_pass_of};
 ghost use Rattle.era_gate.specs.Rule.{bitmap_at};
 
@@ -82,7 +83,8 @@ pub(crate) fn draw_stripe<B: About>(board: &Board, place: &mut Place, _event: &E
     requires pass { PassAsks B.event place.old.me.0.pass }
     ensures table { place.new.table_id ≡ place.old.table_id }
     ensures view { place.new.me ≡ (drew B.event result place.old.me.0, []) }
-    ensures floor { (place.old.me.0.pass.floor ≤ result) × (result < 2 ^ 60) }
+    ensures place { IsNextPlace result place.old.me.0.pass.floor
+        (part_of place.old.me.0).state.entries (part_of place.new.me.0).state.entries }
 {
     board.shared.fetch_add::<Draw<B>>(place, 1, 1)
 }
@@ -96,7 +98,8 @@ pub(crate) fn draw_keeper<B: About>(board: &Board, place: &mut Place, _event: &E
     requires pass { PassAsks B.event place.old.me.0.pass }
     ensures table { place.new.table_id ≡ place.old.table_id }
     ensures view { place.new.me ≡ (keeper_drawn B.event result place.old.me.0, []) }
-    ensures floor { (place.old.me.0.pass.floor ≤ result) × (result < 2 ^ 60) }
+    ensures place { IsNextPlace result place.old.me.0.pass.floor
+        (keeper_of place.old.me.0).state.entries (keeper_of place.new.me.0).state.entries }
 {
     board.shared.fetch_add::<KeeperDraw<B>>(place, 1, 1)
 }

@@ -37,7 +37,7 @@ may-hold opening keeper log None found draws may = elim may [
 ]
 may-hold opening keeper log (Some held) found draws may = may
 
-have-lasts : (h other : List Happening) (m : BlockMarks) (exception : Option ℕ) → at_opening 0 blocks_at other ≡ at_opening 0 blocks_at h → ((block : ℕ) → journal_last_era other block ≡ journal_last_era h block)
+pub have-lasts : (h other : List Happening) (m : BlockMarks) (exception : Option ℕ) → at_opening 0 blocks_at other ≡ at_opening 0 blocks_at h → ((block : ℕ) → journal_last_era other block ≡ journal_last_era h block)
     → ((block era : ℕ) → is_tried_in other block era ≡ is_tried_in h block era) → HaveJournalLasts h m exception → HaveJournalLasts other m exception
 have-lasts h other m None blocks lasts tried have = λ block below. have block (subst (λ n. block < n) blocks below) ∙ sym (lasts block)
 have-lasts h other m (Some exception) blocks lasts tried have = (

@@ -8,3 +8,4 @@ pub mod OwnFlights
 pub mod OwnNotes
 pub mod KeeperWords
 pub mod KeeperRecovers
+pub mod KeeperDurable

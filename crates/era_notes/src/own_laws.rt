@@ -6,7 +6,7 @@ ghost use Rattle.era_model.specs.Changed.{IsCrashContent};
 ghost use Rattle.era_model.specs.History.{content, era_of, in_flight};
 ghost use Rattle.era_model.specs.Marking.{held_of, is_marked_in, is_tried_in, journal_last_era, marks_of};
 ghost use Rattle.era_model.specs.Marks.{BlockMarks};
-ghost use Rattle.era_model.specs.Recovered.{IsRecoveredFrom};
+ghost use Rattle.era_model.specs.Recovered.{IsDurableFrom, IsRecoveredFrom};
 ghost use Rattle.era_model.specs.declared.opening.Opening.{Opening};
 ghost use Rattle.era_notes.specs.Logs.{Draw, drawer_history, log_below, logged_history, noted_entries, own_entries};
 ghost use Rattle.era_notes.specs.Notes.{Note, own_history};
@@ -85,4 +85,12 @@ pub fn recovered_marks_follow_the_log()
         (found : Option BlockMarks) → StripesDraw keeper log
         → IsRecoveredFrom (drawer_history opening keeper log) m found
         → IsRecoveredFrom (logged_history opening log) m found }
+{}
+
+/// Marks and a snapshot that are durable where the session ends, by the keeper's own draws, are durable by the whole journal.
+pub fn durable_marks_follow_the_log()
+    ensures { (opening : Opening) (keeper : ℕ) (log : List Draw) (m : BlockMarks)
+        (found : Option BlockMarks) → StripesDraw keeper log
+        → IsDurableFrom (drawer_history opening keeper log) m found
+        → IsDurableFrom (logged_history opening log) m found }
 {}

@@ -3,7 +3,9 @@ pub mod Issued
 pub mod ReadBack
 pub mod ReadCalls
 pub mod StripeSteps
+pub mod StripeDraws
 pub mod WriteStands
 pub mod SettleStands
 pub mod Starts
 pub mod Leaves
+pub mod Ordered

@@ -1,9 +1,11 @@
 -- A stripe stands after its cut write was resolved.
-use Rattle.std.proofs.Common.{◌≡◌, ℕ, ◌*◌, ◌<◌, ◌≤◌, List, length, vec_len, refl, sym, ◌∙◌, subst}
+use Rattle.std.proofs.Common.{◌≡◌, ℕ, ◌*◌, ◌<◌, ◌≤◌, List, [], ◌∷◌, ◌++◌, length, vec_len, refl, sym, ◌∙◌, subst}
 use Rattle.era_base.specs.Calls.{EachMoment, IsOnDisk, Now}
 use Rattle.era_base.specs.CrashModel.{SameBut}
 use Rattle.era_base.specs.declared.disk.Disk.{Ghosts}
 use Rattle.era_base.specs.declared.ids.CmdId.{CmdId}
+use Rattle.era_gate.specs.Places.{AscendFrom}
+use Rattle.era_gate.specs.StateAfter.{entry}
 use Rattle.era_model.specs.declared.event.Event.TheVariants.{Settle}
 use Rattle.era_model.specs.declared.flight.FlightWrite.{FlightWrite}
 use Rattle.era_model.specs.declared.opening.Opening.{Opening}
@@ -26,9 +28,10 @@ pub record SettledRead {D : Type 0} (disk : Ghosts D) (cut : CutWrite) (bytes : 
 
 pub settle-stands : {D : Type 0} (disk : Ghosts D) (opening : Opening) (old new : Stripe D) (later : D) (cut : CutWrite) (by : CmdId) (bytes : List ℕ) (sector q : ℕ)
     → IsCutWrite old.geometry (part_of old) cut old.seat.part → SettledRead disk cut bytes sector old later
+    → AscendFrom 0 (old.seat.part.state.entries ++ entry q (Settle by cut.id bytes) ∷ [])
     → view_of disk new ≡ left (noted (called (view_of disk old) (disk.history later) (disk.faults later)) (Settle by cut.id bytes) q)
     → StripeStands disk opening old → StripeStands disk opening new
-settle-stands disk opening old new later cut by bytes sector q there read new_is stands =
+settle-stands disk opening old new later cut by bytes sector q there read next new_is stands =
     let before : StripeView = view_of disk old in
     let view : StripeView = called before (disk.history later) (disk.faults later) in
     let write : FlightWrite = cut_flight_of cut there.bytes in
@@ -39,5 +42,5 @@ settle-stands disk opening old new later cut by bytes sector q there read new_is
     let some : 0 < length bytes = subst (λ n. 0 < n) (sym read.size) there.place.some in
     let owes = owes-settle disk.tells opening view by cut.id bytes write there.flight (same_id-refl cut.id) refl size
     (λ told. is-over (part_of old) write bytes (disk.history later).now fits size some (subst (λ s. IsOnDisk (s * 512) bytes (disk.history later).now) read.at (read.on_disk told))) one in
-    let two = stands-left disk.tells opening (noted view (Settle by cut.id bytes) q) (stands-noted disk.tells opening view (Settle by cut.id bytes) q owes one) in
+    let two = stands-left disk.tells opening (noted view (Settle by cut.id bytes) q) (stands-noted disk.tells opening view (Settle by cut.id bytes) q next owes one) in
     subst (ViewStands disk.tells opening) (sym new_is) two

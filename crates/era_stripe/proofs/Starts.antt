@@ -29,6 +29,7 @@ new-stands tells opening view part none begun least idle undrawn empty holds = r
   counts = rw (none, least) (omega arith);
   entries = rw (none, undrawn) refl;
   kept = empty ∙ sym undrawn;
+  places = rw undrawn tt;
 }
 
 pub stands-start : {D : Type 0} (disk : Ghosts D) (opening : Opening) (stripe : Stripe D) (first : D) → IsPartOf opening stripe.geometry (part_of stripe) → notes_of disk stripe.notes ≡ []

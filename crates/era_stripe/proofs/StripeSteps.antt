@@ -1,25 +1,22 @@
 -- Stripes from step to step: what stays, what fits together, and what was drawn.
-use Rattle.std.proofs.Common.{◌≡◌, ℕ, ◌+◌, ◌-◌, ◌*◌, ◌/◌, ◌%◌, ◌≤◌, Bool, true, List, [], ◌∷◌, ◌++◌, Option, Some, None, arith, refl, sym, ap, ◌∙◌, subst, append_assoc}
+use Rattle.std.proofs.Common.{◌≡◌, ℕ, ◌+◌, ◌-◌, ◌*◌, ◌/◌, ◌%◌, ◌≤◌, true, Option, Some, None, arith, sym, ap, ◌∙◌, subst}
 use Rattle.era_base.specs.Calls.{SameDisk}
 use Rattle.era_base.specs.CrashModel.{LiesOn}
 use Rattle.era_base.specs.declared.disk.Disk.{Ghosts}
 use Rattle.era_base.specs.declared.geometry.Geometry.{Geometry}
 use Rattle.era_base.specs.declared.ids.CmdId.{CmdId}
 use Rattle.std.proofs.lemmas.Nat.{div-add-mod'}
-use Rattle.era_gate.specs.Calls.{GateToken, PassToken, StripeToken, draws, pass_draws}
+use Rattle.era_gate.specs.Calls.{GateToken, PassToken, StripeToken, draws}
 use Rattle.era_gate.specs.declared.parts.StripePart.{StripePart}
-use Rattle.era_gate.specs.Passes.{KeepsPass, no_write}
-use Rattle.era_gate.specs.StateAfter.{entry, flight_after}
+use Rattle.era_gate.specs.StateAfter.{flight_after}
 use Rattle.std.specs.Prelude.{Ok, Err}
-use Rattle.era_model.specs.declared.entry.Entry.{Entry}
 use Rattle.era_model.specs.declared.event.Event.{Event}
 use Rattle.era_notes.specs.Parts.{Part, IsIn, IsPlace, sector_in, part_sectors}
-use Rattle.era_notes.specs.Rooms.{entries_in, free_in}
 use Rattle.era_notes.proofs.Offsets.{blocks-apart}
 use Rattle.era_stripe.specs.declared.cut_write.CutWrite.{CutWrite}
 use Rattle.era_stripe.specs.declared.stripe.Stripe.{Stripe}
 use Rattle.era_notes.specs.declared.buffers.Buffers.{Buffers}
-use Rattle.era_stripe.specs.Calls.{Drew, MayCall, SameRest, SameStripe}
+use Rattle.era_stripe.specs.Calls.{MayCall, SameRest, SameStripe}
 use Rattle.era_stripe.specs.Stripes.{StripeFits, CutFits, IsCutWrite, SameStay, part_of}
 use Rattle.era_stripe.specs.Results.{HadNone, Resolved, SettleDid, Unresolved}
 
@@ -44,9 +41,9 @@ place-lies disk stripe block first count fits is place =
     }
 
 -- a draw, device calls and a draw keep what a stripe is
-pub same-drawn : {D : Type 0} (disk : Ghosts D) (old one new : Stripe D) (later : D) → SameRest old one → SameDisk disk one.disk later → SameRest (record one { disk = later }) new
+pub same-drawn : {D : Type 0} (disk : Ghosts D) (old one new : Stripe D) (room : Option Buffers) (later : D) → SameRest (record old { room = room }) one → SameDisk disk one.disk later → SameRest (record one { disk = later }) new
     → new.seat.table ≡ old.seat.table → SameStripe disk old new
-same-drawn disk old one new later first calls second table = record {
+same-drawn disk old one new room later first calls second table = record {
   index = second.index ∙ first.index;
   geometry = second.geometry ∙ first.geometry;
   first_block = second.first_block ∙ first.first_block;
@@ -93,45 +90,6 @@ fits-again disk old new same fits number era cut = record {
   era = era;
   cut = subst (λ (part : Part). CutFits new.geometry part new.cut new.seat.part) (same-part disk old new same)
       (subst (λ (g : Geometry). CutFits g (part_of old) new.cut new.seat.part) (sym same.geometry) cut);
-}
-
--- a pass is kept over a call that issues no write
-pub keeps-then : (drawn more : ℕ) (issued : CmdId → Bool) (a b c : PassToken) → KeepsPass drawn issued a b → KeepsPass more no_write b c → KeepsPass (drawn + more) issued a c
-keeps-then drawn more issued a b c one two = record {
-  table = two.table ∙ one.table;
-  lanes = λ l. two.lanes l ∙ one.lanes l;
-  gone = λ id not_issued. two.gone id refl ∙ one.gone id not_issued;
-  budget = omega (arith, one.budget, two.budget);
-  floor = omega (arith, one.floor, two.floor);
-  begun = λ d. omega (arith, one.begun d, two.begun d);
-  ended = λ d. omega (arith, one.ended d, two.ended d);
-}
-
--- one draw
-pub drew-one : {D : Type 0} (old new : Stripe D) (pass pass' : PassToken) (event : Event) (place : ℕ) (issued : CmdId → Bool) → entries_in new.entries ≡ entries_in old.entries ++ entry place event ∷ []
-    → pass.part.floor ≤ place → free_in new.entries + 1 ≡ free_in old.entries → pass'.part.lanes ≡ (pass_draws pass.part event place).lanes → KeepsPass 1 issued pass pass'
-    → Drew (event ∷ []) issued old new pass pass'
-drew-one old new pass pass' event place issued kept floor room lanes keeps = record {
-  kept = record { entries = entry place event ∷ []; are = refl; kept = kept; ascend = (floor, tt); room = sym room };
-  receipts = lanes;
-  keeps = keeps;
-}
-
--- two draws
-pub drew-two : {D : Type 0} (old one new : Stripe D) (pass mid pass' : PassToken) (first second : Event) (p q : ℕ) (issued : CmdId → Bool)
-    → Drew (first ∷ []) issued old one pass mid → entries_in one.entries ≡ entries_in old.entries ++ entry p first ∷ [] → pass.part.floor ≤ p → mid.part ≡ pass_draws pass.part first p
-    → entries_in new.entries ≡ entries_in one.entries ++ entry q second ∷ [] → mid.part.floor ≤ q → free_in new.entries + 1 ≡ free_in one.entries
-    → pass'.part.lanes ≡ (pass_draws mid.part second q).lanes → KeepsPass 1 no_write mid pass' → Drew (first ∷ second ∷ []) issued old new pass pass'
-drew-two old one new pass mid pass' first second p q issued drew kept floor is kept' floor' room lanes keeps = record {
-  kept = record {
-    entries = entry p first ∷ entry q second ∷ [];
-    are = refl;
-    kept = kept' ∙ ap (λ entries. entries ++ entry q second ∷ []) kept ∙ append_assoc (entries_in old.entries) (entry p first ∷ []) (entry q second ∷ []);
-    ascend = (floor, (omega (arith, floor', ap (λ part. part.floor) is), tt));
-    room = omega (arith, room, drew.kept.room);
-  };
-  receipts = lanes ∙ ap (λ part. (pass_draws part second q).lanes) is;
-  keeps = keeps-then 1 1 issued pass mid pass' drew.keeps keeps;
 }
 
 -- a draw alone
@@ -182,21 +140,6 @@ stay-noted old new event place same seat quiet = record {
   table = ap (λ (s : StripeToken). s.table) seat;
 }
 
--- what was drawn by a stripe with the same entries
-pub drew-from : {D : Type 0} (old mid new : Stripe D) (pass pass' : PassToken) (events : List Event) (issued : CmdId → Bool) → mid.entries ≡ old.entries
-    → Drew events issued mid new pass pass' → Drew events issued old new pass pass'
-drew-from old mid new pass pass' events issued same drew = record {
-  kept = record {
-    entries = drew.kept.entries;
-    are = drew.kept.are;
-    kept = drew.kept.kept ∙ ap (λ entries. entries_in entries ++ drew.kept.entries) same;
-    ascend = drew.kept.ascend;
-    room = sym (ap free_in same) ∙ drew.kept.room;
-  };
-  receipts = drew.receipts;
-  keeps = drew.keeps;
-}
-
 -- the stay of a stripe whose disk was called, and whose room is used up
 pub stay-called : {D : Type 0} (old new : Stripe D) (later : D) (room : Option Buffers) → SameStay (record old { disk = later; room = room }) new → SameStay old new
 stay-called old new later room stay = record {
@@ -239,18 +182,6 @@ read-sector sector size first le =
     let split : ((sector / size - first) + first) * size ≡ (sector / size - first) * size + first * size = omega arith in
     let product : sector / size * size ≡ (sector / size - first) * size + first * size = ap (λ n. n * size) (sym back) ∙ split in
     (omega (arith, whole, product), omega (arith, whole, product))
-
--- nothing is drawn
-append-none : (entries : List Entry) → entries ≡ entries ++ []
-append-none [] = refl
-append-none (entry ∷ entries) = ap (λ es. entry ∷ es) (append-none entries)
-
-pub drew-none : {D : Type 0} (old new : Stripe D) (pass pass' : PassToken) → new.entries ≡ old.entries → pass'.part.lanes ≡ pass.part.lanes → KeepsPass 0 no_write pass pass' → Drew [] no_write old new pass pass'
-drew-none old new pass pass' same lanes keeps = record {
-  kept = record { entries = []; are = refl; kept = ap entries_in same ∙ append-none (entries_in old.entries); ascend = tt; room = omega (arith, ap free_in same) };
-  receipts = lanes;
-  keeps = keeps;
-}
 
 -- what a settling did, by the write that was cut
 pub did-none : {D : Type 0} (disk : Ghosts D) (cut : Option CutWrite) (by : CmdId) (old new : Stripe D) (pass pass' : PassToken) → cut ≡ None → HadNone old new pass pass' → SettleDid disk cut by (Ok tt) old new pass pass'

@@ -1,7 +1,8 @@
 -- A stripe stands: over a draw, over device calls, and over stays in the gate.
-use Rattle.std.proofs.Common.{◌≡◌, ℕ, ◌≤◌, Bool, true, List, [], ◌∷◌, ◌++◌, arith, refl, sym, ap, ◌∙◌}
+use Rattle.std.proofs.Common.{◌≡◌, ℕ, ◌≤◌, Bool, true, List, [], ◌∷◌, ◌++◌, arith, refl, sym, ap, ◌∙◌, subst}
 use Rattle.era_base.specs.CrashModel.{History, Continues, AllBetween, clock}
 use Rattle.era_base.specs.Faults.{Rose}
+use Rattle.era_gate.specs.Places.{AscendFrom}
 use Rattle.era_gate.specs.StateAfter.{entry, flights, flight_after}
 use Rattle.era_gate.specs.declared.states.StripeState.{StripeState}
 use Rattle.era_model.specs.declared.event.Event.{Event}
@@ -33,9 +34,9 @@ pub record OwesDraw (tells : Bool) (opening : Opening) (view : StripeView) (even
   pub flying : in_flight (Happened event ∷ own_history opening view.notes) ≡ flights (flight_after event view.state.flight)
   pub holds : tells ≡ true → HoldsContent view.part (Happened event ∷ own_history opening view.notes) view.history.now
 
-pub stands-noted : (tells : Bool) (opening : Opening) (view : StripeView) (event : Event) (place : ℕ) → OwesDraw tells opening view event
-    → ViewStands tells opening view → ViewStands tells opening (noted view event place)
-stands-noted tells opening view event place owes stands = record {
+pub stands-noted : (tells : Bool) (opening : Opening) (view : StripeView) (event : Event) (place : ℕ) → AscendFrom 0 (view.state.entries ++ entry place event ∷ [])
+    → OwesDraw tells opening view event → ViewStands tells opening view → ViewStands tells opening (noted view event place)
+stands-noted tells opening view event place next owes stands = record {
   part = stands.part;
   through = λ told. through-note (λ notes. HoldsContent view.part (own_history opening notes)) view.history view.begun
       (record { entry = entry place event; moment = clock view.history; faults = view.faults }) view.notes refl (owes.holds told) (stands.through told);
@@ -44,6 +45,7 @@ stands-noted tells opening view event place owes stands = record {
   counts = (omega arith, owes.told, stands.counts);
   entries = ap (λ entries. entries ++ entry place event ∷ []) stands.entries;
   kept = ap (λ entries. entries ++ entry place event ∷ []) stands.kept;
+  places = next;
 }
 
 pub stands-called : (tells : Bool) (opening : Opening) (view : StripeView) (history : History) (faults : ℕ) → view.faults ≤ faults
@@ -59,6 +61,7 @@ stands-called tells opening view history faults le went stands = record {
   counts = counts-later view.least view.faults faults view.notes le stands.counts;
   entries = stands.entries;
   kept = stands.kept;
+  places = stands.places;
 }
 
 pub stands-left : (tells : Bool) (opening : Opening) (view : StripeView) → ViewStands tells opening view → ViewStands tells opening (left view)
@@ -70,6 +73,7 @@ stands-left tells opening view stands = record {
   counts = stands.counts;
   entries = stands.entries;
   kept = stands.kept;
+  places = stands.places;
 }
 
 -- another stay in the gate
@@ -83,4 +87,5 @@ stands-stay tells opening view state flight entries stands = record {
   counts = stands.counts;
   entries = stands.entries ∙ sym entries;
   kept = stands.kept ∙ sym entries;
+  places = subst (AscendFrom 0) (sym entries) stands.places;
 }

@@ -6,13 +6,16 @@ use Rattle.era_base.specs.Faults.{Rose}
 use Rattle.era_base.specs.declared.disk.Disk.{Ghosts}
 use Rattle.era_base.specs.declared.ids.CmdId.{CmdId}
 use Rattle.era_gate.specs.Calls.{GateToken, PassToken, has_lane, has_gone, has_seen, pass_draws, StripeAsks, PassAsks}
-use Rattle.era_gate.specs.Gathered.{AscendFrom}
-use Rattle.era_gate.specs.Passes.{KeepsPass}
+use Rattle.era_gate.specs.Passes.{KeepsPass, KnowsEnded, no_write}
+use Rattle.era_gate.specs.Places.{AscendFrom, IsNextPlace}
+use Rattle.era_gate.specs.StateAfter.{entry}
 use Rattle.era_gate.specs.declared.parts.PassPart.{PassPart}
+use Rattle.era_gate.specs.declared.parts.StripePart.{StripePart}
 use Rattle.era_model.specs.declared.entry.Entry.{Entry}
 use Rattle.era_model.specs.declared.event.Event.{Event}
 use Rattle.era_notes.specs.Notes.{notes_of, first_device, last_faults, least_of}
 use Rattle.era_notes.specs.Rooms.{entries_in, free_in, HoldBytes}
+use Rattle.era_notes.specs.declared.chunks.Chunks.{Chunks}
 use Rattle.era_stripe.specs.declared.stripe.Stripe.{Stripe}
 use Rattle.era_notes.specs.Parts.{IsIn, IsPlace}
 use Rattle.era_stripe.specs.Stripes.{StripeFits, part_of}
@@ -51,6 +54,19 @@ abbrev pub after_draws : PassPart → List Entry → PassPart
 after_draws pass [] = pass
 after_draws pass (entry ∷ entries) = after_draws (pass_draws pass entry.event entry.place) entries
 
+-- A seat drew one event: its place is the next one for the seat, the pass has its receipt, and the chunks have room for one entry less.
+pub record DrewOne (event : Event) (place : ℕ) (issued : CmdId → Bool) (seat : StripePart) (old new : Chunks) (pass pass' : PassToken) : Type 0 where
+  pub next : IsNextPlace place pass.part.floor seat.state.entries (seat.state.entries ++ entry place event ∷ [])
+  pub lanes : pass'.part.lanes ≡ (pass_draws pass.part event place).lanes
+  pub keeps : KeepsPass 1 issued pass pass'
+  pub room : free_in new + 1 ≡ free_in old
+
+-- A stripe left by a pass: the pass has the receipts that it had, and knows all stays of the stripe as ended.
+pub record LeftBy (part : StripePart) (old new : PassToken) : Type 0 where
+  pub lanes : new.part.lanes ≡ old.part.lanes
+  pub keeps : KeepsPass 0 no_write old new
+  pub knows : KnowsEnded part new.part
+
 -- A stripe has kept entries of these events behind those that it had. Their places ascend from a floor on.
 pub record KeptEntries {D : Type 0} (events : List Event) (floor : ℕ) (old new : Stripe D) : Type 0 where
   pub entries : List Entry
@@ -76,7 +92,7 @@ pub record SameStripe {D : Type 0} (disk : Ghosts D) (old new : Stripe D) : Type
   pub began : first_device new.notes ≡ first_device old.notes
   pub table : new.seat.table ≡ old.seat.table
 
--- A draw changes nothing of a stripe but its seat, its entries and its notes.
+-- A draw changes nothing of a stripe but its seat, its entries and its notes. The buffers that are left stay too.
 pub record SameRest {D : Type 0} (old new : Stripe D) : Type 0 where
   pub disk : new.disk ≡ old.disk
   pub index : new.index ≡ old.index
@@ -86,6 +102,7 @@ pub record SameRest {D : Type 0} (old new : Stripe D) : Type 0 where
   pub era : new.era ≡ old.era
   pub cut : new.cut ≡ old.cut
   pub began : first_device new.notes ≡ first_device old.notes
+  pub room : new.room ≡ old.room
 
 -- A count of faults is the present one of the disk, which rose since the stripe's last entry.
 pub record IsNewCount {D : Type 0} (disk : Ghosts D) (stripe : Stripe D) (count : ℕ) : Type 0 where

@@ -11,11 +11,12 @@ use Rattle.era_model.specs.declared.event.Event.TheVariants.{Go, Done, Cut, Sett
 use Rattle.era_model.specs.declared.event.Kind.TheVariants.{Read as ReadKind}
 use Rattle.era_model.specs.declared.event.Why.TheVariants.{DataFault}
 use Rattle.era_model.specs.Events.{same_id}
+use Rattle.era_model.specs.declared.opening.Opening.{Opening}
 use Rattle.era_stripe.specs.declared.cut_write.CutWrite.{CutWrite}
 use Rattle.era_stripe.specs.declared.stripe.Stripe.{Stripe}
-use Rattle.era_stripe.specs.Calls.{Drew, MayCall, MayHold, MayIssue, SyncedAndRead}
+use Rattle.era_stripe.specs.Calls.{Drew, IsNewCount, MayCall, MayHold, MayIssue, SyncedAndRead}
 use Rattle.era_notes.specs.Parts.{sector_in}
-use Rattle.era_stripe.specs.Stripes.{StripeFits, IsAtRest, part_of}
+use Rattle.era_stripe.specs.Stripes.{StripeFits, StripeStands, IsAtRest, part_of}
 
 -- A write may be made.
 pub record MayWriteSeen {D : Type 0} (disk : Ghosts D) (gate : GateToken) (stripe : Stripe D) (pass : PassToken) (id : CmdId) (block first count : ℕ) : Type 0 where
@@ -62,7 +63,7 @@ SyncsAndReads first buffer (Ok value) old new = SyncedAndRead {T = Unit} {E = �
 SyncsAndReads first buffer (Err count) old new =
     Syncs {T = Unit} {E = ℕ} (Err count) old new ⊎ SyncedAndRead {T = Unit} {E = ℕ} first buffer (Err count) old new
 
--- A cut write was resolved: the bytes that were read back of its sectors, behind a sync, are those of the event.
+-- A cut write was resolved: the bytes that were read back of its sectors, behind a sync, are those of the event. The buffers of the command are still there.
 pub record Resolved {D : Type 0} (disk : Ghosts D) (cut : CutWrite) (by : CmdId) (old new : Stripe D) (pass pass' : PassToken) : Type 0 where
   pub bytes : List ℕ
   pub size : length bytes ≡ vec_len cut.buffer
@@ -70,14 +71,18 @@ pub record Resolved {D : Type 0} (disk : Ghosts D) (cut : CutWrite) (by : CmdId)
   pub told : disk.tells ≡ true → SyncsAndReads (sector_in (part_of old) cut.block cut.first) bytes (Ok tt) (disk.history old.disk) (disk.history new.disk)
   pub uncut : new.cut ≡ None
   pub outside : new.seat.part.state.inside ≡ false
+  pub room : new.room ≡ old.room
 
--- A cut write couldn't be resolved: nothing was drawn, the write is still cut, and the sync failed, or the read behind it.
+-- A cut write couldn't be resolved: nothing was drawn, the write is still cut, and the sync failed, or the read behind it. The count rose since the last entry of a stripe that stands, so it may be drawn.
 pub record Unresolved {D : Type 0} (disk : Ghosts D) (cut : CutWrite) (count : ℕ) (old new : Stripe D) (pass pass' : PassToken) : Type 0 where
   pub drew : Drew [] no_write old new pass pass'
   pub buffer : List ℕ
   pub told : disk.tells ≡ true → SyncsAndReads (sector_in (part_of old) cut.block cut.first) buffer (Err count) (disk.history old.disk) (disk.history new.disk)
   pub still_cut : CutIs new.cut cut.id cut.block cut.first (vec_len cut.buffer)
   pub seat : new.seat ≡ old.seat
+  pub notes : new.notes ≡ old.notes
+  pub room : new.room ≡ old.room
+  pub risen : (opening : Opening) → StripeStands disk opening old → IsNewCount disk new count
 
 -- No write is cut: nothing was drawn, and no device call made.
 pub record HadNone {D : Type 0} (old new : Stripe D) (pass pass' : PassToken) : Type 0 where
@@ -85,6 +90,8 @@ pub record HadNone {D : Type 0} (old new : Stripe D) (pass pass' : PassToken) : 
   pub disk : new.disk ≡ old.disk
   pub seat : new.seat ≡ old.seat
   pub uncut : new.cut ≡ None
+  pub notes : new.notes ≡ old.notes
+  pub room : new.room ≡ old.room
 
 -- What a settling came to, by the write that was cut and the result.
 abbrev pub SettleDid : {D : Type 0} → Ghosts D → Option CutWrite → CmdId → Result Unit ℕ → Stripe D → Stripe D → PassToken → PassToken → Type 0

@@ -5,6 +5,7 @@ use Rattle.era_base.specs.Geometry.{blocks_of}
 use Rattle.era_base.specs.declared.disk.Disk.{Ghosts}
 use Rattle.era_base.specs.declared.geometry.Geometry.{Geometry}
 use Rattle.era_gate.specs.Acts.{entry, flights, stripe_with, stripe_out}
+use Rattle.era_gate.specs.Places.{AscendFrom}
 use Rattle.era_gate.specs.declared.parts.StripePart.{StripePart}
 use Rattle.era_gate.specs.declared.states.StripeState.{StripeState}
 use Rattle.era_model.specs.declared.entry.Entry.{Entry}
@@ -105,7 +106,7 @@ abbrev pub LeavesItsContent : Opening → StripeView → Type 0
 LeavesItsContent opening view =
     HoldsThrough (λ notes. LeavesContent view.part (own_history opening notes)) view.history view.begun (clock view.history) view.notes
 
--- A stripe stands in a session that opened so: the part holds its content at each moment; the write in flight is the one that the gate knows; each entry met its conditions as far as own entries tell; counts of faults ascend; and the entries are those of the seat.
+-- A stripe stands in a session that opened so: the part holds its content at each moment; the write in flight is the one that the gate knows; each entry met its conditions as far as own entries tell; counts of faults ascend; the entries are those of the seat; and their places ascend.
 pub record ViewStands (tells : Bool) (opening : Opening) (view : StripeView) : Type 0 where
   pub part : IsPartOf opening view.geometry view.part
   pub through : tells ≡ true → HoldsItsContent opening view
@@ -114,6 +115,7 @@ pub record ViewStands (tells : Bool) (opening : Opening) (view : StripeView) : T
   pub counts : CountsRise view.least view.faults view.notes
   pub entries : entries_of view.notes ≡ view.state.entries
   pub kept : view.entries ≡ view.state.entries
+  pub places : AscendFrom 0 view.state.entries
 
 -- The record of a stripe. It is of the stripe's value alone, and holds before and after each call, whatever the call answered.
 abbrev pub StripeStands : {D : Type 0} → Ghosts D → Opening → Stripe D → Type 0

@@ -1,10 +1,8 @@
 //! How a stripe draws: the entry is kept and noted with the draw.
 
-ghost use Rattle.std.specs.Prelude.{◌≡◌, ◌+◌, ◌<◌, ◌≤◌, ◌^◌};
-ghost use Rattle.era_gate.specs.Calls.{StripeAsks, PassAsks, draws, pass_draws};
-ghost use Rattle.era_gate.specs.Passes.{KeepsPass};
+ghost use Rattle.std.specs.Prelude.{◌≡◌};
+ghost use Rattle.era_gate.specs.Calls.{draws, pass_draws};
 ghost use Rattle.era_model.specs.Events.{is_go_of};
-ghost use Rattle.era_notes.specs.Rooms.{free_in};
 
 use crate::stripe::Stripe;
 use era_base::Disk;
@@ -12,7 +10,7 @@ use era_gate::{Gate, Pass};
 use era_model::{Entry, Event};
 
 impl<D: Disk> Stripe<D> {
-    ghost use Rattle.era_stripe.specs.Calls.{MayNote, SameRest};
+    ghost use Rattle.era_stripe.specs.Calls.{DrewOne, MayNote, SameRest};
     ghost use Rattle.era_stripe.specs.Stripes.{noted, view_of};
 
     /// Draws the next place for an event, and keeps and notes the entry. It makes no device call and takes no memory.
@@ -27,9 +25,8 @@ impl<D: Disk> Stripe<D> {
           table = pass.old.table;
           part = pass_draws pass.old.part event result;
         } }
-        ensures floor { (pass.old.part.floor ≤ result) × (result < 2 ^ 60) }
-        ensures keeps { KeepsPass 1 (λ id. is_go_of id event) pass.old pass.new }
-        ensures room { free_in self.new.entries + 1 ≡ free_in self.old.entries }
+        ensures drew { DrewOne event result (λ id. is_go_of id event) self.old.seat.part
+            self.old.entries self.new.entries pass.old pass.new }
         ensures same { SameRest self.old self.new }
     {
         let place = gate.draw_stripe(&mut self.seat, pass, &event);

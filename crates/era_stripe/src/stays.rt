@@ -1,16 +1,16 @@
-//! How a stripe enters the gate, looks at its bitmap, and leaves.
+//! How a stripe enters the gate, looks at its bitmap or is shown a mark, and leaves.
 
 ghost use Rattle.std.specs.Prelude.{◌≡◌, ◌<◌, true};
-ghost use Rattle.era_gate.specs.Calls.{enters, leaves, sees, stay_of, pass_enters};
-ghost use Rattle.era_gate.specs.Passes.{KeepsPass, KnowsEnded, no_write};
+ghost use Rattle.era_gate.specs.Calls.{enters, has_mark, leaves, sees, stay_of, pass_enters};
+ghost use Rattle.era_gate.specs.Passes.{KeepsPass, no_write};
 ghost use Rattle.era_model.specs.declared.opening.Opening.{Opening};
 
 use crate::stripe::Stripe;
 use era_base::{CmdId, Disk};
-use era_gate::{Gate, Pass};
+use era_gate::{Gate, KeeperSeat, Pass};
 
 impl<D: Disk> Stripe<D> {
-    ghost use Rattle.era_stripe.specs.Calls.{MayEnter, MayLeave, SameButStay};
+    ghost use Rattle.era_stripe.specs.Calls.{LeftBy, MayEnter, MayLeave, SameButStay};
     ghost use Rattle.era_stripe.specs.Stripes.{StripeFits, StripeStands, IsAtRest};
 
     /// Enters the gate for the command: the era in which the stripe is inside. It draws nothing, makes no device call and takes
@@ -55,6 +55,28 @@ impl<D: Disk> Stripe<D> {
         gate.look(&mut self.seat, block)
     }
 
+    /// Is shown a block that the keeper marked in the present era: it is seen until the stripe leaves, as if a look had found the
+    /// bit set. It draws nothing, makes no device call, takes no memory and waits for nobody.
+    pub fn be_shown(&mut self, gate: &Gate, keeper: &mut KeeperSeat, block: u32)
+        requires fits { StripeFits D.Disk self.old }
+        requires tables { (keeper.old.table ≡ gate.now.table)
+            × (self.old.seat.table ≡ gate.now.table) }
+        requires inside { self.old.seat.part.state.inside ≡ true }
+        requires marked { has_mark block keeper.old.part.state.era keeper.old.part.state.entries
+            ≡ true }
+        ensures fits { StripeFits D.Disk self.new }
+        ensures stands { (opening : Opening) → StripeStands D.Disk opening self.old
+            → StripeStands D.Disk opening self.new }
+        ensures keeper { keeper.new ≡ keeper.old }
+        ensures seat { self.new.seat ≡ record {
+          table = self.old.seat.table;
+          part = sees self.old.seat.part true block;
+        } }
+        ensures same { (self.new.era ≡ self.old.era) × SameButStay self.old self.new }
+    {
+        gate.show(keeper, &mut self.seat, block);
+    }
+
     /// Leaves the gate. No write is cut. It draws nothing, makes no device call and takes no memory.
     pub fn leave(&mut self, gate: &Gate, pass: &mut Pass)
         requires may { MayLeave D.Disk gate.now self.old pass.old }
@@ -66,9 +88,7 @@ impl<D: Disk> Stripe<D> {
           table = self.old.seat.table;
           part = leaves self.old.seat.part;
         } }
-        ensures lanes { pass.new.part.lanes ≡ pass.old.part.lanes }
-        ensures keeps { KeepsPass 0 no_write pass.old pass.new }
-        ensures knows { KnowsEnded self.new.seat.part pass.new.part }
+        ensures pass { LeftBy self.new.seat.part pass.old pass.new }
         ensures same { SameButStay self.old self.new }
     {
         gate.leave(&mut self.seat, pass);

@@ -1,12 +1,11 @@
 //! The steps of a stripe's calls that touch no device.
 
-ghost use Rattle.std.specs.Prelude.{◌≡◌, ◌+◌, ◌<◌, ◌≤◌, ◌^◌, true, None, length, vec_len};
+ghost use Rattle.std.specs.Prelude.{◌≡◌, true, None, length, vec_len};
 ghost use Rattle.era_gate.specs.Calls.{draws, leaves, pass_draws};
-ghost use Rattle.era_gate.specs.Passes.{KeepsPass, KnowsEnded};
+ghost use Rattle.era_gate.specs.Passes.{KnowsEnded};
 ghost use Rattle.era_gate.specs.StateAfter.{flight_after};
 ghost use Rattle.era_model.specs.Events.{is_go_of};
 ghost use Rattle.era_model.specs.declared.event.Event.TheVariants.{Go};
-ghost use Rattle.era_notes.specs.Rooms.{free_in};
 ghost use Rattle.era_notes.specs.Parts.{IsIn, sector_in};
 
 use crate::stripe::Stripe;
@@ -15,7 +14,7 @@ use era_gate::{Gate, Pass};
 use era_model::Event;
 
 impl<D: Disk> Stripe<D> {
-    ghost use Rattle.era_stripe.specs.Calls.{MayNote, SameRest};
+    ghost use Rattle.era_stripe.specs.Calls.{DrewOne, MayNote, SameRest};
     ghost use Rattle.era_stripe.specs.Results.{MayWriteSeen, only};
     ghost use Rattle.era_stripe.specs.Stripes.{left, noted, part_of, view_of};
 
@@ -50,11 +49,10 @@ impl<D: Disk> Stripe<D> {
           table = pass.old.table;
           part = pass_draws pass.old.part (Go id block self.old.era first bytes.now) result.0;
         } }
-        ensures floor { (pass.old.part.floor ≤ result.0) × (result.0 < 2 ^ 60) }
-        ensures keeps { KeepsPass 1 (only id) pass.old pass.new }
-        ensures room { free_in self.new.entries + 1 ≡ free_in self.old.entries }
+        ensures drew { DrewOne (Go id block self.old.era first bytes.now) result.0 (only id)
+            self.old.seat.part self.old.entries self.new.entries pass.old pass.new }
         ensures spare { vec_len result.1 ≡ length bytes.now }
-        ensures same { SameRest self.old self.new }
+        ensures same { SameRest (record self.old { room = None }) self.new }
     {
         let Some(buffers) = self.room.take() else {
             unreachable!()
@@ -82,11 +80,9 @@ impl<D: Disk> Stripe<D> {
           table = self.old.seat.table;
           part = leaves (draws self.old.seat.part event result);
         } }
-        ensures lanes { pass.new.part.lanes ≡ (pass_draws pass.old.part event result).lanes }
-        ensures floor { (pass.old.part.floor ≤ result) × (result < 2 ^ 60) }
-        ensures keeps { KeepsPass 1 (λ id. is_go_of id event) pass.old pass.new }
+        ensures drew { DrewOne event result (λ id. is_go_of id event) self.old.seat.part
+            self.old.entries self.new.entries pass.old pass.new }
         ensures knows { KnowsEnded self.new.seat.part pass.new.part }
-        ensures room { free_in self.new.entries + 1 ≡ free_in self.old.entries }
         ensures same { SameRest self.old self.new }
     {
         let place = self.note(gate, pass, event);

@@ -1,4 +1,5 @@
-use Rattle.era_gate.proofs.GatheredDrawers.{all-have_drawers, keeper-ascends, stripe-ascends}
+use Rattle.era_gate.proofs.Ascending.{keeper-ascends, stripe-ascends}
+use Rattle.era_gate.proofs.GatheredDrawers.{all-have_drawers}
 use Rattle.era_gate.proofs.GatheredOnce.{opened-apart, opened-keeper_apart}
 use Rattle.era_gate.proofs.laws.each_place_has_its_drawer.Goals as goal
 

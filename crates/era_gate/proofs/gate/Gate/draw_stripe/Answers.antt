@@ -7,9 +7,9 @@ use Rattle.era_gate.proofs.gate.Gate.draw_stripe.Goals as goal
 pub returns-clause-pass : goal.returns-clause-pass
 returns-clause-pass c = search rules
 
-pub returns-clause-floor : goal.returns-clause-floor
-returns-clause-floor c = search rules
+pub returns-clause-place : goal.returns-clause-place
+returns-clause-place c = search rules
 
 pub returns-clause-keeps : goal.returns-clause-keeps
 returns-clause-keeps c =
-    subst (KeepsPass 1 (λ id. is_go_of id c.args.event.now) c.args.pass.now) (sym (returns-clause-pass c)) (draw_keeps c.args.pass.now c.args.event.now c.draw_stripe-place.result (returns-clause-floor c).0 c.requires.pass.1)
+    subst (KeepsPass 1 (λ id. is_go_of id c.args.event.now) c.args.pass.now) (sym (returns-clause-pass c)) (draw_keeps c.args.pass.now c.args.event.now c.draw_stripe-place.result (returns-clause-place c).floor c.requires.pass.1)

@@ -44,5 +44,5 @@ returns-clause-stands g c = λ opening stands.
 pub returns-clause-rest : goal.returns-clause-rest
 returns-clause-rest g c = ap (λ (s : StripeToken). s.part.state.inside) c.leave.ensures.seat ∙ sym (ap is_some c.requires.may.uncut)
 
-pub returns-clause-lanes : goal.returns-clause-lanes
-returns-clause-lanes g c = ap (λ (t : PassToken). t.part.lanes) c.leave.ensures.pass
+pub returns-clause-pass : goal.returns-clause-pass
+returns-clause-pass g c = record { lanes = ap (λ (t : PassToken). t.part.lanes) c.leave.ensures.pass; keeps = c.leave.ensures.keeps; knows = c.leave.ensures.knows }

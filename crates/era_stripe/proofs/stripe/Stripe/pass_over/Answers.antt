@@ -1,7 +1,6 @@
 use Rattle.std.proofs.Common.{arith, refl, sym, ap, ◌∙◌, subst}
 use Rattle.std.proofs.lemmas.Bool.{false≢true}
 use Rattle.std.specs.Prelude.{is_some}
-use Rattle.era_gate.specs.Calls.{PassToken}
 use Rattle.era_gate.specs.Passes.{no_write}
 use Rattle.era_gate.specs.StateAfter.{flights}
 use Rattle.era_model.specs.declared.event.Event.TheVariants.{Unsettled}
@@ -11,7 +10,8 @@ use Rattle.era_notes.proofs.Drawn.{cut-own}
 use Rattle.era_stripe.specs.Results.{PassedOver}
 use Rattle.era_stripe.specs.Stripes.{StripeView, ViewStands, cut_flight_of, view_of}
 use Rattle.era_stripe.proofs.ReadBack.{owes-unsettled}
-use Rattle.era_stripe.proofs.StripeSteps.{cut-there, drew-one, fits-noted, stay-noted}
+use Rattle.era_stripe.proofs.StripeDraws.{drew-one}
+use Rattle.era_stripe.proofs.StripeSteps.{cut-there, fits-noted, stay-noted}
 use Rattle.era_stripe.proofs.Views.{stands-noted}
 use Rattle.era_stripe.proofs.stripe.Stripe.pass_over.Goals as goal
 
@@ -48,7 +48,7 @@ returns-clause-stands g c = λ opening stands.
     let new = c.requires.may.new in
     let there = cut-there c.args.self.now cut (sym c.take.ensures.value ∙ c.in-Some.is) c.requires.may.fits.cut in
     let owes = owes-unsettled g.D.Disk.tells opening view c.args.by cut.id c.args.count (cut_flight_of cut there.bytes) there.flight (same_id-refl cut.id) refl new.present new.rose stands in
-    subst (ViewStands g.D.Disk.tells opening) (sym c.note.ensures.view) (stands-noted g.D.Disk.tells opening view (Unsettled c.args.by cut.id c.args.count) c.note.result owes stands)
+    subst (ViewStands g.D.Disk.tells opening) (sym c.note.ensures.view) (stands-noted g.D.Disk.tells opening view (Unsettled c.args.by cut.id c.args.count) c.note.result c.note.ensures.drew.next.ascend owes stands)
 
 pub returns-clause-drew : goal.returns-clause-drew
 returns-clause-drew g c =
@@ -56,7 +56,7 @@ returns-clause-drew g c =
     let is = sym c.take.ensures.value ∙ c.in-Some.is in
     subst (λ found. PassedOver found c.args.by c.args.count c.args.self.now c.note.new.self c.args.pass.now c.note.new.pass) (sym is)
     (drew-one c.args.self.now c.note.new.self c.args.pass.now c.note.new.pass (Unsettled c.args.by cut.id c.args.count) c.note.result no_write
-    (ap (λ (v : StripeView). v.entries) c.note.ensures.view) c.note.ensures.floor.0 c.note.ensures.room (ap (λ (t : PassToken). t.part.lanes) c.note.ensures.pass) c.note.ensures.keeps)
+    (ap (λ (v : StripeView). v.entries) c.note.ensures.view) c.note.ensures.drew)
 
 pub returns-clause-stay : goal.returns-clause-stay
 returns-clause-stay g c =
@@ -77,4 +77,5 @@ returns-clause-same g c =
       era = same.era;
       cut = same.cut ∙ sym is;
       began = same.began;
+      room = same.room;
     }

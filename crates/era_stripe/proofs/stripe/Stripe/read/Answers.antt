@@ -5,7 +5,7 @@ use Rattle.era_base.specs.Bytes.{part as bytes_at}
 use Rattle.era_base.specs.CrashModel.{LiesOn, State}
 use Rattle.era_base.specs.Disk.{Reads}
 use Rattle.era_base.specs.Faults.{HasCount, Rose}
-use Rattle.era_gate.specs.Calls.{PassToken, StripeToken}
+use Rattle.era_gate.specs.Calls.{StripeToken}
 use Rattle.era_gate.specs.Passes.{no_write}
 use Rattle.era_model.specs.declared.event.Event.TheVariants.{Read}
 use Rattle.era_notes.specs.Notes.{last_faults}
@@ -16,7 +16,8 @@ use Rattle.era_stripe.specs.Stripes.{StripeView, ViewStands, called, view_of, pa
 use Rattle.era_stripe.proofs.Issued.{stands-quiet}
 use Rattle.era_stripe.proofs.ReadBack.{owes-read, all_cut-fits}
 use Rattle.era_stripe.proofs.ReadCalls.{went-read}
-use Rattle.era_stripe.proofs.StripeSteps.{place-lies, read-sector, fits-called, may-called, same-called, drew-from, drew-one, stay-called, stay-noted, fits-noted}
+use Rattle.era_stripe.proofs.StripeDraws.{drew-from, drew-one}
+use Rattle.era_stripe.proofs.StripeSteps.{place-lies, read-sector, fits-called, may-called, same-called, stay-called, stay-noted, fits-noted}
 use Rattle.era_stripe.proofs.Views.{OwesDraw, last_faults-le, rose-since, stands-noted}
 use Rattle.era_stripe.proofs.stripe.Stripe.read.Goals as goal
 
@@ -116,14 +117,14 @@ returns-clause-stands g c = λ opening stands.
     (ap (λ (state : State). bytes_at ((c.args.sector - c.from.result * c.from-size.result) * 512) (length c.read.new.into) state.seen) read.same ∙ sym read.bytes))
     stands_later in
     subst (ViewStands g.D.Disk.tells opening) (sym c.note.ensures.view)
-    (stands-noted g.D.Disk.tells opening later (Read c.args.id c.args.sector c.fill-bytes.result.0) c.note.result
+    (stands-noted g.D.Disk.tells opening later (Read c.args.id c.args.sector c.fill-bytes.result.0) c.note.result c.note.ensures.drew.next.ascend
     (subst (λ (bytes : List ℕ). OwesDraw g.D.Disk.tells opening later (Read c.args.id c.args.sector bytes)) (sym c.fill-bytes.ensures.bytes) owes) stands_later)
 
 pub returns-clause-drew : goal.returns-clause-drew
 returns-clause-drew g c =
     subst (λ (bytes : List ℕ). Drew (Read c.args.id c.args.sector bytes ∷ []) no_write c.args.self.now c.note.new.self c.args.pass.now c.note.new.pass) c.fill-bytes.ensures.bytes
     (drew-one c.args.self.now c.note.new.self c.args.pass.now c.note.new.pass (Read c.args.id c.args.sector c.fill-bytes.result.0) c.note.result no_write
-    (ap (λ (v : StripeView). v.entries) c.note.ensures.view) c.note.ensures.floor.0 c.note.ensures.room (ap (λ (t : PassToken). t.part.lanes) c.note.ensures.pass) c.note.ensures.keeps)
+    (ap (λ (v : StripeView). v.entries) c.note.ensures.view) c.note.ensures.drew)
 
 pub returns-clause-told : goal.returns-clause-told
 returns-clause-told g c = λ told.

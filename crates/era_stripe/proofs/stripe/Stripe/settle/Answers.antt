@@ -3,21 +3,23 @@ use Rattle.std.proofs.lemmas.Bool.{false≢true}
 use Rattle.std.specs.Prelude.{Ok, Err, is_some}
 use Rattle.era_base.specs.CrashModel.{LiesOn}
 use Rattle.era_base.specs.Calls.{IsOnDisk}
-use Rattle.era_base.specs.Faults.{HasCount}
+use Rattle.era_base.specs.Faults.{HasCount, Rose}
 use Rattle.era_gate.specs.Calls.{PassToken, StripeToken}
 use Rattle.era_gate.specs.Passes.{no_write}
 use Rattle.era_gate.specs.StateAfter.{flights}
 use Rattle.era_model.specs.declared.event.Event.TheVariants.{Settle}
 use Rattle.era_model.specs.Writes.{is_cut}
 use Rattle.era_model.proofs.CommandReplies.{same_id-refl}
+use Rattle.era_notes.specs.Notes.{last_faults}
 use Rattle.era_notes.specs.Parts.{IsPlace, sector_in}
 use Rattle.era_notes.proofs.Drawn.{cut-own}
 use Rattle.era_stripe.specs.Results.{SyncsAndReads}
 use Rattle.era_stripe.specs.Stripes.{StripeView, CutFits, called, cut_flight_of, part_of, view_of}
 use Rattle.era_stripe.proofs.SettleStands.{SettledRead, settle-stands}
 use Rattle.era_stripe.proofs.Issued.{stands-quiet}
-use Rattle.era_stripe.proofs.StripeSteps.{cut-there, did-fail, did-none, did-resolve, drew-none, drew-one, fits-again, place-lies}
-use Rattle.era_stripe.proofs.Views.{stands-stay}
+use Rattle.era_stripe.proofs.StripeDraws.{drew-none, drew-one}
+use Rattle.era_stripe.proofs.StripeSteps.{cut-there, did-fail, did-none, did-resolve, fits-again, place-lies}
+use Rattle.era_stripe.proofs.Views.{last_faults-le, rose-since, stands-stay}
 use Rattle.era_stripe.proofs.stripe.Stripe.settle.Goals as goal
 
 -- no write is cut
@@ -42,16 +44,7 @@ returns-in_default-clause-fits g c =
     let fits = c.requires.may.fits in
     let none = sym c.take.ensures.value ∙ c.in_default.is in
     let idle = subst (λ cut. CutFits c.args.self.now.geometry (part_of c.args.self.now) cut c.args.self.now.seat.part) none fits.cut in
-    fits-again g.D.Disk c.args.self.now _ (record {
-      index = refl;
-      geometry = refl;
-      first_block = refl;
-      blocks = refl;
-      place = refl;
-      sectors = refl;
-      began = refl;
-      table = ap (λ (s : StripeToken). s.table) seat;
-    }) fits (ap (λ (s : StripeToken). s.part.stripe) seat)
+    fits-again g.D.Disk c.args.self.now _ (returns-in_default-clause-same g c) fits (ap (λ (s : StripeToken). s.part.stripe) seat)
     (λ is. fits.era (sym (ap (λ (s : StripeToken). s.part.state.inside) seat) ∙ is) ∙ sym (ap (λ (s : StripeToken). s.part.era) seat))
     (subst (λ cut. CutFits c.args.self.now.geometry (part_of c.args.self.now) cut c.learn.new.seat.part) (sym c.take.ensures.after)
     (ap (λ (s : StripeToken). s.part.state.flight) seat ∙ idle))
@@ -71,6 +64,8 @@ returns-in_default-clause-did g c =
       disk = refl;
       seat = c.learn.ensures.seat;
       uncut = c.take.ensures.after;
+      notes = refl;
+      room = refl;
     })
 
 pub returns-in_default-clause-rest : goal.returns-in_default-clause-rest
@@ -137,16 +132,7 @@ returns-in-Ok-clause-fits g c =
     let same = c.finish.ensures.same in
     let seat = c.finish.ensures.seat in
     let uncut = same.cut ∙ c.take.ensures.after in
-    fits-again g.D.Disk c.args.self.now c.finish.new.self (record {
-      index = same.index;
-      geometry = same.geometry;
-      first_block = same.first_block;
-      blocks = same.blocks;
-      place = ap g.D.Disk.place same.disk ∙ c.read_back_into.ensures.disk.place;
-      sectors = ap g.D.Disk.sectors same.disk ∙ c.read_back_into.ensures.disk.size;
-      began = same.began;
-      table = ap (λ (s : StripeToken). s.table) seat;
-    }) c.requires.may.fits (ap (λ (s : StripeToken). s.part.stripe) seat)
+    fits-again g.D.Disk c.args.self.now c.finish.new.self (returns-in-Ok-clause-same g c) c.requires.may.fits (ap (λ (s : StripeToken). s.part.stripe) seat)
     (λ is. absurd (false≢true (sym (ap (λ (s : StripeToken). s.part.state.inside) seat) ∙ is)))
     (subst (λ cut. CutFits c.args.self.now.geometry (part_of c.args.self.now) cut c.finish.new.self.seat.part) (sym uncut) (ap (λ (s : StripeToken). s.part.state.flight) seat))
 
@@ -161,7 +147,7 @@ returns-in-Ok-clause-stands g c = λ opening stands.
       size = ap length c.from_vec-bytes.ensures ∙ c.read_back_into.ensures.size.1;
       at = c.sector_of-sector.ensures;
     } in
-    settle-stands g.D.Disk opening c.args.self.now c.finish.new.self c.read_back_into.new.disk cut c.args.by c.from_vec-bytes.result c.sector_of-sector.result c.finish.result there read c.finish.ensures.view stands
+    settle-stands g.D.Disk opening c.args.self.now c.finish.new.self c.read_back_into.new.disk cut c.args.by c.from_vec-bytes.result c.sector_of-sector.result c.finish.result there read c.finish.ensures.drew.next.ascend c.finish.ensures.view stands
 
 pub returns-in-Ok-clause-did : goal.returns-in-Ok-clause-did
 returns-in-Ok-clause-did g c =
@@ -173,13 +159,14 @@ returns-in-Ok-clause-did g c =
       bytes = c.from_vec-bytes.result;
       size = ap length c.from_vec-bytes.ensures ∙ c.read_back_into.ensures.size.1;
       drew = drew-one c.args.self.now c.finish.new.self c.args.pass.now c.finish.new.pass (Settle c.args.by cut.id c.from_vec-bytes.result) c.finish.result no_write
-          (ap (λ (v : StripeView). v.entries) ended.view) ended.floor.0 ended.room ended.lanes ended.keeps;
+          (ap (λ (v : StripeView). v.entries) ended.view) ended.drew;
       told = λ told.
           subst (λ d. SyncsAndReads (sector_in (part_of c.args.self.now) cut.block cut.first) c.from_vec-bytes.result (Ok tt) (g.D.Disk.history c.args.self.now.disk) (g.D.Disk.history d)) (sym ended.same.disk)
           (subst (λ (bytes : List ℕ). SyncsAndReads (sector_in (part_of c.args.self.now) cut.block cut.first) bytes (Ok tt) (g.D.Disk.history c.args.self.now.disk) (g.D.Disk.history c.read_back_into.new.disk)) (sym c.from_vec-bytes.ensures)
           (subst (λ s. SyncsAndReads s c.read_back_into.new.into.items (Ok tt) (g.D.Disk.history c.args.self.now.disk) (g.D.Disk.history c.read_back_into.new.disk)) c.sector_of-sector.ensures (c.in-Ok.ensures.told told)));
       uncut = ended.same.cut ∙ c.take.ensures.after;
       outside = ap (λ (s : StripeToken). s.part.state.inside) ended.seat;
+      room = ended.same.room;
     })
 
 pub returns-in-Ok-clause-rest : goal.returns-in-Ok-clause-rest
@@ -212,16 +199,7 @@ returns-in-Err-clause-fits g c =
     let cut = c.in-Some.cut in
     let there = cut-there c.args.self.now cut (sym c.take.ensures.value ∙ c.in-Some.is) fits.cut in
     let size = c.read_back_into.ensures.size.0 in
-    fits-again g.D.Disk c.args.self.now _ (record {
-      index = refl;
-      geometry = refl;
-      first_block = refl;
-      blocks = refl;
-      place = c.read_back_into.ensures.disk.place;
-      sectors = c.read_back_into.ensures.disk.size;
-      began = refl;
-      table = ap (λ (s : StripeToken). s.table) seat;
-    }) fits (ap (λ (s : StripeToken). s.part.stripe) seat)
+    fits-again g.D.Disk c.args.self.now _ (returns-in-Err-clause-same g c) fits (ap (λ (s : StripeToken). s.part.stripe) seat)
     (λ is. fits.era (sym (ap (λ (s : StripeToken). s.part.state.inside) seat) ∙ is) ∙ sym (ap (λ (s : StripeToken). s.part.era) seat))
     (record {
       inside = ap (λ (s : StripeToken). s.part.state.inside) seat ∙ there.inside;
@@ -253,6 +231,13 @@ returns-in-Err-clause-did g c =
           subst (λ s. SyncsAndReads s c.read_back_into.new.into.items (Err c.in-Err.count) (g.D.Disk.history c.args.self.now.disk) (g.D.Disk.history c.read_back_into.new.disk)) c.sector_of-sector.ensures (c.in-Err.ensures.told told);
       still_cut = record { of = refl; at = refl; from = refl; size = c.read_back_into.ensures.size.0 };
       seat = c.learn-in-Err.ensures.seat;
+      notes = refl;
+      room = refl;
+      risen = λ opening stands.
+          let view = view_of g.D.Disk c.args.self.now in
+          let cause = c.in-Err.ensures.cause in
+          let rose = rose-since (last_faults view.least view.notes) view.faults (g.D.Disk.faults c.read_back_into.new.disk) (last_faults-le view.least view.faults view.notes stands.counts) cause.cause.failed in
+          record { present = cause.count; rose = subst (λ n. Rose (last_faults view.least view.notes) n) (sym cause.count) rose };
     })
 
 pub returns-in-Err-clause-rest : goal.returns-in-Err-clause-rest

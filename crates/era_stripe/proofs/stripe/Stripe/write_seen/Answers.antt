@@ -1,4 +1,4 @@
-use Rattle.std.proofs.Common.{ℕ, ◌+◌, ◌*◌, ◌≤◌, length, arith, refl, sym, ap, ◌∙◌, subst}
+use Rattle.std.proofs.Common.{ℕ, ◌+◌, ◌*◌, ◌≤◌, length, None, arith, refl, sym, ap, ◌∙◌, subst}
 use Rattle.std.proofs.lemmas.Bool.{false≢true}
 use Rattle.std.specs.Prelude.{Ok, Err}
 use Rattle.era_base.specs.Calls.{EachMoment, WritesThenSyncs}
@@ -14,7 +14,8 @@ use Rattle.era_notes.proofs.Drawn.{writing-own}
 use Rattle.era_stripe.specs.Results.{only}
 use Rattle.era_stripe.specs.Stripes.{StripeView, CutFits, part_of}
 use Rattle.era_stripe.proofs.Issued.{issued}
-use Rattle.era_stripe.proofs.StripeSteps.{over-equal, place-lies, same-drawn, same-cut, fits-again, drew-one, drew-two}
+use Rattle.era_stripe.proofs.StripeDraws.{drew-two}
+use Rattle.era_stripe.proofs.StripeSteps.{over-equal, place-lies, same-drawn, same-cut, fits-again}
 use Rattle.era_stripe.proofs.WriteStands.{IsWrite, WentWrite, write-stands-done, write-stands-cut}
 use Rattle.era_stripe.proofs.stripe.Stripe.write_seen.Goals as goal
 
@@ -38,11 +39,11 @@ finish-requires-clause-may g c =
     let did = c.issue-spare.ensures in
     record {
       table = ap (λ (s : StripeToken). s.table) did.seat ∙ call.table;
-      pass_table = did.keeps.table ∙ call.pass_table;
+      pass_table = did.drew.keeps.table ∙ call.pass_table;
       may = ap (λ (s : StripeToken). is_writing (flights s.part.state.flight) c.args.id) did.seat
           ∙ writing-own (issued c.args.id c.args.block c.args.first c.args.bytes.now) c.args.id (same_id-refl c.args.id) refl;
-      asks = (did.keeps.lanes c.args.id.lane ∙ call.lane, omega (arith, did.keeps.budget, call.budget));
-      room = omega (arith, did.room, call.room);
+      asks = (did.drew.keeps.lanes c.args.id.lane ∙ call.lane, omega (arith, did.drew.keeps.budget, call.budget));
+      room = omega (arith, did.drew.room, call.room);
     }
 
 pub finish-requires-clause-inside : goal.finish-requires-clause-inside
@@ -58,11 +59,11 @@ note-requires g c =
     record {
       may = record {
         table = ap (λ (s : StripeToken). s.table) did.seat ∙ call.table;
-        pass_table = did.keeps.table ∙ call.pass_table;
+        pass_table = did.drew.keeps.table ∙ call.pass_table;
         may = ap (λ (s : StripeToken). is_writing (flights s.part.state.flight) c.args.id) did.seat
             ∙ writing-own (issued c.args.id c.args.block c.args.first c.args.bytes.now) c.args.id (same_id-refl c.args.id) refl;
-        asks = (did.keeps.lanes c.args.id.lane ∙ call.lane, omega (arith, did.keeps.budget, call.budget));
-        room = omega (arith, did.room, call.room);
+        asks = (did.drew.keeps.lanes c.args.id.lane ∙ call.lane, omega (arith, did.drew.keeps.budget, call.budget));
+        room = omega (arith, did.drew.room, call.room);
       };
     }
 
@@ -70,12 +71,12 @@ note-requires g c =
 pub returns-in-Ok-clause-same : goal.returns-in-Ok-clause-same
 returns-in-Ok-clause-same g c =
     let table = ap (λ (s : StripeToken). s.table) c.finish.ensures.seat ∙ ap (λ (s : StripeToken). s.table) c.issue-spare.ensures.seat in
-    same-drawn g.D.Disk c.args.self.now c.issue-spare.new.self c.finish.new.self c.write_synced.new.disk c.issue-spare.ensures.same c.write_synced.ensures.disk c.finish.ensures.same table
+    same-drawn g.D.Disk c.args.self.now c.issue-spare.new.self c.finish.new.self None c.write_synced.new.disk c.issue-spare.ensures.same c.write_synced.ensures.disk c.finish.ensures.same table
 
 pub returns-in-Ok-clause-fits : goal.returns-in-Ok-clause-fits
 returns-in-Ok-clause-fits g c =
     let table = ap (λ (s : StripeToken). s.table) c.finish.ensures.seat ∙ ap (λ (s : StripeToken). s.table) c.issue-spare.ensures.seat in
-    let same = same-drawn g.D.Disk c.args.self.now c.issue-spare.new.self c.finish.new.self c.write_synced.new.disk c.issue-spare.ensures.same c.write_synced.ensures.disk c.finish.ensures.same table in
+    let same = same-drawn g.D.Disk c.args.self.now c.issue-spare.new.self c.finish.new.self None c.write_synced.new.disk c.issue-spare.ensures.same c.write_synced.ensures.disk c.finish.ensures.same table in
     let number = ap (λ (s : StripeToken). s.part.stripe) c.finish.ensures.seat ∙ ap (λ (s : StripeToken). s.part.stripe) c.issue-spare.ensures.seat in
     let outside = ap (λ (s : StripeToken). s.part.state.inside) c.finish.ensures.seat in
     let uncut = c.finish.ensures.same.cut ∙ c.issue-spare.ensures.same.cut ∙ c.requires.may.issue.uncut in
@@ -94,7 +95,7 @@ returns-in-Ok-clause-stands g c = λ opening stands.
       later = subst (λ d. g.D.Disk.faults d ≤ g.D.Disk.faults c.write_synced.new.disk) c.issue-spare.ensures.same.disk c.write_synced.ensures.cause.cause.later;
     } in
     write-stands-done g.D.Disk opening c.args.self.now c.issue-spare.new.self c.finish.new.self c.write_synced.new.disk c.args.id c.args.block c.args.self.now.era c.args.first c.args.bytes.now
-    c.sector_of-sector.result c.issue-spare.result.0 c.finish.result write went c.in-Ok.ensures.written c.issue-spare.ensures.view c.finish.ensures.view stands
+    c.sector_of-sector.result c.issue-spare.result.0 c.finish.result write went c.in-Ok.ensures.written c.issue-spare.ensures.drew.next.ascend c.finish.ensures.drew.next.ascend c.issue-spare.ensures.view c.finish.ensures.view stands
 
 pub returns-in-Ok-clause-drew : goal.returns-in-Ok-clause-drew
 returns-in-Ok-clause-drew g c =
@@ -102,10 +103,8 @@ returns-in-Ok-clause-drew g c =
     let did = c.issue-spare.ensures in
     let ended = c.finish.ensures in
     let kept = ap (λ (v : StripeView). v.entries) did.view in
-    let lanes = ap (λ (t : PassToken). t.part.lanes) did.pass in
-    let first = drew-one c.args.self.now c.issue-spare.new.self c.args.pass.now c.issue-spare.new.pass go c.issue-spare.result.0 (only c.args.id) kept did.floor.0 did.room lanes did.keeps in
     drew-two c.args.self.now c.issue-spare.new.self c.finish.new.self c.args.pass.now c.issue-spare.new.pass c.finish.new.pass go (Done c.args.id) c.issue-spare.result.0 c.finish.result (only c.args.id)
-    first kept did.floor.0 (ap (λ (t : PassToken). t.part) did.pass) (ap (λ (v : StripeView). v.entries) ended.view) ended.floor.0 ended.room ended.lanes ended.keeps
+    kept did.drew (ap (λ (t : PassToken). t.part) did.pass) (ap (λ (v : StripeView). v.entries) ended.view) ended.drew
 
 pub returns-in-Ok-clause-told : goal.returns-in-Ok-clause-told
 returns-in-Ok-clause-told g c = λ told.
@@ -127,13 +126,13 @@ pub returns-in-Err-clause-same : goal.returns-in-Err-clause-same
 returns-in-Err-clause-same g c =
     let table = ap (λ (s : StripeToken). s.table) c.note.ensures.seat ∙ ap (λ (s : StripeToken). s.table) c.issue-spare.ensures.seat in
     same-cut g.D.Disk c.args.self.now c.note.new.self _
-    (same-drawn g.D.Disk c.args.self.now c.issue-spare.new.self c.note.new.self c.write_synced.new.disk c.issue-spare.ensures.same c.write_synced.ensures.disk c.note.ensures.same table)
+    (same-drawn g.D.Disk c.args.self.now c.issue-spare.new.self c.note.new.self None c.write_synced.new.disk c.issue-spare.ensures.same c.write_synced.ensures.disk c.note.ensures.same table)
 
 pub returns-in-Err-clause-fits : goal.returns-in-Err-clause-fits
 returns-in-Err-clause-fits g c =
     let may = c.requires.may in
     let table = ap (λ (s : StripeToken). s.table) c.note.ensures.seat ∙ ap (λ (s : StripeToken). s.table) c.issue-spare.ensures.seat in
-    let same = same-drawn g.D.Disk c.args.self.now c.issue-spare.new.self c.note.new.self c.write_synced.new.disk c.issue-spare.ensures.same c.write_synced.ensures.disk c.note.ensures.same table in
+    let same = same-drawn g.D.Disk c.args.self.now c.issue-spare.new.self c.note.new.self None c.write_synced.new.disk c.issue-spare.ensures.same c.write_synced.ensures.disk c.note.ensures.same table in
     let number = ap (λ (s : StripeToken). s.part.stripe) c.note.ensures.seat ∙ ap (λ (s : StripeToken). s.part.stripe) c.issue-spare.ensures.seat in
     let inside = ap (λ (s : StripeToken). s.part.state.inside) c.note.ensures.seat ∙ ap (λ (s : StripeToken). s.part.state.inside) c.issue-spare.ensures.seat ∙ may.issue.inside in
     let era = ap (λ (s : StripeToken). s.part.era) c.note.ensures.seat ∙ ap (λ (s : StripeToken). s.part.era) c.issue-spare.ensures.seat in
@@ -164,7 +163,7 @@ returns-in-Err-clause-stands g c = λ opening stands.
     let rose = subst (λ n. Rose (g.D.Disk.faults c.args.self.now.disk) n) (sym count)
     (subst (λ d. Rose (g.D.Disk.faults d) (g.D.Disk.faults c.write_synced.new.disk)) c.issue-spare.ensures.same.disk c.in-Err.ensures.cause.cause.failed) in
     write-stands-cut g.D.Disk opening c.args.self.now c.issue-spare.new.self c.note.new.self c.write_synced.new.disk c.args.id c.args.block c.args.self.now.era c.args.first c.args.bytes.now
-    c.sector_of-sector.result c.issue-spare.result.0 c.note.result c.in-Err.count write went count rose c.issue-spare.ensures.view c.note.ensures.view stands
+    c.sector_of-sector.result c.issue-spare.result.0 c.note.result c.in-Err.count write went count rose c.issue-spare.ensures.drew.next.ascend c.note.ensures.drew.next.ascend c.issue-spare.ensures.view c.note.ensures.view stands
 
 pub returns-in-Err-clause-drew : goal.returns-in-Err-clause-drew
 returns-in-Err-clause-drew g c =
@@ -172,10 +171,8 @@ returns-in-Err-clause-drew g c =
     let did = c.issue-spare.ensures in
     let ended = c.note.ensures in
     let kept = ap (λ (v : StripeView). v.entries) did.view in
-    let lanes = ap (λ (t : PassToken). t.part.lanes) did.pass in
-    let first = drew-one c.args.self.now c.issue-spare.new.self c.args.pass.now c.issue-spare.new.pass go c.issue-spare.result.0 (only c.args.id) kept did.floor.0 did.room lanes did.keeps in
     drew-two c.args.self.now c.issue-spare.new.self _ c.args.pass.now c.issue-spare.new.pass c.note.new.pass go (Cut c.args.id c.in-Err.count) c.issue-spare.result.0 c.note.result (only c.args.id)
-    first kept did.floor.0 (ap (λ (t : PassToken). t.part) did.pass) (ap (λ (v : StripeView). v.entries) ended.view) ended.floor.0 ended.room (ap (λ (t : PassToken). t.part.lanes) ended.pass) ended.keeps
+    kept did.drew (ap (λ (t : PassToken). t.part) did.pass) (ap (λ (v : StripeView). v.entries) ended.view) ended.drew
 
 pub returns-in-Err-clause-told : goal.returns-in-Err-clause-told
 returns-in-Err-clause-told g c = λ told.

@@ -1,0 +1,2 @@
+pub mod BenchSteps
+pub mod BenchStart
