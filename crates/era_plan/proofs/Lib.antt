@@ -3,3 +3,5 @@ pub mod LineForms
 pub mod Sayable
 pub mod StreamSteps
 pub mod ReadingSteps
+pub mod RefusedLines
+pub mod RoundEndings

@@ -1,5 +1,5 @@
 -- What lines say: each lane is below 64, and each task is one that a line spells.
-use Rattle.std.proofs.Common.{◌≡◌, ℕ, ◌<◌, ◌≤◌, ◌^◌, ◌==◌, ◌%◌, ◌&&◌, List, [], ◌∷◌, length, refl, ap, arith}
+use Rattle.std.proofs.Common.{◌≡◌, ℕ, ◌<◌, ◌≤◌, ◌==◌, ◌%◌, ◌&&◌, List, [], ◌∷◌, length, refl, ap, arith}
 use Rattle.std.specs.Prelude.{Bool, true, false, Option, Some, None, Result, Ok, Err, bytes_eq, codes, nat_lt, nat_le, if◌then◌else◌}
 use Rattle.std.proofs.lemmas.Bool.{ltb-true, leb-true, eqb-true, eqb-false, and_parts}
 use Rattle.hex.specs.Hex.{decode_of}
@@ -7,12 +7,12 @@ use Rattle.hex.specs.declared.error.FromHexError.{FromHexError}
 use Rattle.era_line.specs.Words.{words_of}
 use Rattle.era_model.specs.declared.command.Request.{Request}
 use Rattle.era_plan.specs.Commands.{IsPayload}
-use Rattle.era_plan.specs.Forms.{bytes_of, four_words_say, is_payload, line_says, list_says, one_word_says, payload_or_none, read_says, request_of, request_says, three_words_say, with_bytes, with_number, words_say, write_says}
+use Rattle.era_plan.specs.Forms.{bytes_of, is_payload, line_says, list_says, payload_or_none, read_says, request_of, request_says, with_bytes, with_number, words_say, write_says}
 use Rattle.era_plan.specs.Numbers.{count_of, era_of, lane_of, number_of, sector_of, unless_zero}
 use Rattle.era_plan.specs.Taking.{IsSayable}
 use Rattle.era_plan.proofs.WordNumbers.{number-some, when-some}
 use Rattle.era_plan.specs.declared.says.Says.{Says}
-use Rattle.era_plan.specs.declared.says.Says.TheVariants.{Run, Does, Nothing}
+use Rattle.era_plan.specs.declared.says.Says.TheVariants.{Run, Nothing}
 use Rattle.era_plan.specs.declared.round.LineKind.TheVariants.{LongLine, Unknown}
 
 -- a number that isn't 0

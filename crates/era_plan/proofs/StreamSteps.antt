@@ -1,13 +1,11 @@
 -- How lines go on with a round, and what commands they add to it.
-use Rattle.std.proofs.Common.{◌≡◌, ℕ, ◌+◌, ◌<◌, ◌≤◌, ◌||◌, List, [], ◌∷◌, ◌++◌, length, sym, ◌∙◌, refl, ap, subst, arith}
-use Rattle.std.specs.Prelude.{Bool, true, false, nat_le, if◌then◌else◌}
+use Rattle.std.proofs.Common.{◌≡◌, ℕ, ◌+◌, ◌||◌, List, [], ◌∷◌, ◌++◌, length, sym, ◌∙◌, refl, ap, subst, arith}
+use Rattle.std.specs.Prelude.{Bool, true, false, nat_le}
 use Rattle.std.proofs.lemmas.List.{append_assoc, append-nil}
 use Rattle.era_model.specs.declared.command.Command.{Command}
-use Rattle.era_model.specs.declared.command.Task.{Task}
-use Rattle.era_plan.specs.Commands.{IsTask}
 use Rattle.era_plan.specs.Forms.{line_says}
 use Rattle.era_plan.specs.Reading.{AreNext, IsNext}
-use Rattle.era_plan.specs.Stream.{Ends, GoOn, Goes, Refuses, Standing, Step, after_step, is_round_big, is_session_big, line_step, next_command, says_step, stream_from, unless, with_command, with_round_ended}
+use Rattle.era_plan.specs.Stream.{Ends, GoOn, Goes, Standing, Step, after_step, is_round_big, is_session_big, line_step, next_command, says_step, stream_from, unless, with_command, with_round_ended}
 use Rattle.era_plan.specs.Taking.{IsSayable}
 use Rattle.era_plan.specs.declared.round.LineKind.{LineKind}
 use Rattle.era_plan.specs.declared.round.LineKind.TheVariants.{RoundBig, TooMany}

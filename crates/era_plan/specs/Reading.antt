@@ -1,5 +1,5 @@
 -- What a reader of rounds answers of the text that is still to be read, and where it stands then.
-use Rattle.std.specs.Prelude.{◌≡◌, ℕ, ◌+◌, ◌<◌, ◌≤◌, Bool, List, [], ◌∷◌, ◌++◌, length, slice_index, Option, Some, None}
+use Rattle.std.specs.Prelude.{◌≡◌, ℕ, ◌+◌, ◌<◌, ◌≤◌, ◌==◌, Bool, true, List, [], ◌∷◌, ◌++◌, length, slice_index, Option, Some, None}
 use Rattle.era_base.specs.declared.limits.TheConstants.{MOST_COMMANDS}
 use Rattle.era_line.specs.Lines.{lines_of}
 use Rattle.era_line.specs.Reading.{EndsInside, IsAhead}
@@ -16,9 +16,22 @@ use Rattle.era_plan.specs.declared.stream_reader.Lines.{Lines}
 abbrev pub has_failed : Lines → Bool
 has_failed lines = lines.failed
 
+-- Whether the reader has come to the end of its input: then it asks the source no more.
+abbrev pub has_ended : Lines → Bool
+has_ended lines = lines.ended
+
 -- The bytes that the reader took of its source and hasn't read.
 abbrev pub taken_by : Lines → List ℕ
 taken_by lines = lines.reader
+
+-- A text is what is still to be read: what was taken of a source, and what the source has left. Once the input has ended there is nothing.
+pub record IsStillAhead (ended : Bool) (taken : List ℕ) (left : Option (List ℕ)) (text : List ℕ) : Type 0 where
+  pub ahead : IsAhead taken left text
+  pub behind_end : ended ≡ true → text ≡ []
+
+-- A text is what a reader has still to read.
+abbrev pub IsToRead : Lines → Option (List ℕ) → List ℕ → Type 0
+IsToRead lines left text = IsStillAhead (has_ended lines) (taken_by lines) left text
 
 -- How many lines were read.
 abbrev pub lines_read : Lines → ℕ
@@ -80,10 +93,15 @@ abbrev pub HasGiven : Standing → Lines → Option Round → Type 0
 HasGiven at lines None = StandsAt lines at
 HasGiven at lines (Some round) = HasGivenRound at round.commands lines.counts
 
+-- Whether the input has ended, by what was given: it has where there is no round, and with a round exactly where the lines of this one are its commands alone, so that no line ended it.
+abbrev pub TellsEnd : Standing → Lines → Option Round → Type 0
+TellsEnd at lines None = has_ended lines ≡ true
+TellsEnd at lines (Some round) = has_ended lines ≡ (lines_read lines == at.lines + length round.commands)
+
 -- A round of a text was read: the text's stream is this round, and then the stream of the rest.
-pub record ReadsRound (at : Standing) (text : List ℕ) (commands : List Command) (lines : ℕ) (taken : List ℕ) (left : Option (List ℕ)) : Type 0 where
+pub record ReadsRound (at : Standing) (text : List ℕ) (commands : List Command) (lines : ℕ) (ended : Bool) (taken : List ℕ) (left : Option (List ℕ)) : Type 0 where
   pub rest : List ℕ
-  pub ahead : IsAhead taken left rest
+  pub ahead : IsStillAhead ended taken left rest
   pub goes : stream_from (lines_of text) at ≡ with_round commands (stream_from (lines_of rest) (behind_round at commands lines))
 
 -- A text has no further round, and it has ended.
@@ -94,7 +112,7 @@ pub record HasNoRound (at : Standing) (text taken : List ℕ) (left : Option (Li
 -- What a reader gives of a text: its next round, or that it has none.
 abbrev pub GivesRound : Standing → List ℕ → Lines → Option (List ℕ) → Option Round → Type 0
 GivesRound at text lines left None = HasNoRound at text (taken_by lines) left
-GivesRound at text lines left (Some round) = ReadsRound at text round.commands (lines_read lines) (taken_by lines) left
+GivesRound at text lines left (Some round) = ReadsRound at text round.commands (lines_read lines) (has_ended lines) (taken_by lines) left
 
 -- A source failed inside a round of a text: the lines that ended in front of the failed call go on with the round, and it failed inside the next one.
 pub record StopsInRound (at : Standing) (text : List ℕ) (left : Option (List ℕ)) : Type 0 where

@@ -3,7 +3,7 @@ use Rattle.std.specs.Prelude.{◌≡◌, ℕ, List, []}
 use Rattle.era_model.specs.declared.command.Command.{Command}
 use Rattle.era_model.specs.declared.command.Request.{Request}
 use Rattle.era_model.specs.declared.command.Task.TheVariants.{Ask}
-use Rattle.era_plan.specs.Stream.{AtEnd, RefusedAt, Stream, stream_rounds}
+use Rattle.era_plan.specs.Stream.{AtEnd, RefusedAt, stream_rounds}
 use Rattle.era_plan.specs.declared.round.LineKind.{LineKind}
 
 -- The request of a lane in a line, with its number in the lane.

@@ -1,5 +1,5 @@
 -- What the reader's own steps make of a line.
-use Rattle.std.specs.Prelude.{◌≡◌, ℕ, ◌+◌, ◌<◌, ◌≤◌, List, [], ◌∷◌, ◌++◌, length, Option, Result, Ok, Err}
+use Rattle.std.specs.Prelude.{◌≡◌, ℕ, ◌+◌, ◌<◌, ◌≤◌, Bool, true, List, [], ◌∷◌, ◌++◌, length, Option, Result, Ok, Err}
 use Rattle.era_base.specs.declared.limits.TheConstants.{MOST_COMMANDS}
 use Rattle.era_line.specs.Lines.{lines_of}
 use Rattle.era_line.specs.Reading.{EndsInside, IsAhead, ReadsLine}
@@ -102,6 +102,12 @@ abbrev pub ReadsTo : List ℕ → List ℕ → List ℕ → Option (List ℕ) �
 ReadsTo text line taken left GoesFurther = ReadsLine text line taken left
 ReadsTo text line taken left EndsIt = ReadsLine text line taken left
 ReadsTo text line taken left Over = (text ≡ []) × IsAhead taken left []
+
+-- Whether the input has ended: it has where there was no line, and where there was one this is as before.
+abbrev pub IsAtEnd : Bool → Bool → Progress → Type 0
+IsAtEnd before now GoesFurther = now ≡ before
+IsAtEnd before now EndsIt = now ≡ before
+IsAtEnd before now Over = now ≡ true
 
 -- The first line of a text is refused.
 pub record RefusesFirst (now : Standing) (text : List ℕ) (error : PlanError) : Type 0 where

@@ -1,11 +1,11 @@
 //! The rounds that a source gives, one after the other.
 
-ghost use Rattle.std.specs.Prelude.{◌≡◌, ◌↔◌, ◌+◌, ℕ, List, false, Ok, IsErr, IsTrue, IfOk, IfErr, MatchResult};
+ghost use Rattle.std.specs.Prelude.{◌≡◌, ◌↔◌, ◌+◌, ℕ, List, true, false, Ok, IsErr, IsTrue, IfOk, IfErr, MatchResult};
 ghost use Rattle.era_line.specs.Reading.{IsAhead, LeavesRest};
 ghost use Rattle.era_plan.specs.Errors.{HasPlanCause};
-ghost use Rattle.era_plan.specs.Reading.{FailsRound, GivesRound, HasGiven, StandsAt, has_failed, taken_by};
+ghost use Rattle.era_plan.specs.Reading.{FailsRound, GivesRound, HasGiven, IsToRead, StandsAt, TellsEnd, has_ended, has_failed, taken_by};
 ghost use Rattle.era_plan.specs.Stream.{Standing, line_step};
-ghost use Rattle.era_plan.specs.Taking.{FailsStep, ReadsTo, StandsIn, TakesTo};
+ghost use Rattle.era_plan.specs.Taking.{FailsStep, IsAtEnd, ReadsTo, StandsIn, TakesTo};
 ghost use Rattle.era_plan.specs.declared.progress.Progress.TheVariants.{Goes as goes};
 
 use crate::forms::read_line;
@@ -24,8 +24,9 @@ const LONGEST_LINE: usize = 131_200;
 /// Reads the next round of a stream: its commands up to a line `run`, or up to the end of the input. None exactly where
 /// the input is at its end with no command before it. It is always called with the same source.
 ///
-/// A round is answered as soon as its last line was read: the source isn't asked between that line and the answer. It
-/// takes memory for the reader's own buffers, once, and for the round.
+/// A round is answered as soon as its last line was read: the source isn't asked between that line and the answer. Nor is
+/// it asked again once the input has ended, be it inside a round: the next call answers that there is none. It takes
+/// memory for the reader's own buffers, once, and for the round.
 pub fn next_round<S: Source>(
     alloc: Global,
     lines: &mut Lines,
@@ -33,27 +34,34 @@ pub fn next_round<S: Source>(
 ) -> Result<Option<Round>, PlanError>
     requires { has_failed lines.old ≡ false }
     ensures told { (text : List ℕ) (at : Standing) → StandsAt lines.old at
-        → IsAhead (taken_by lines.old) (S.left source.old) text
+        → IsToRead lines.old (S.left source.old) text
         → MatchResult result
         (GivesRound at text lines.new (S.left source.new))
         (FailsRound at text (S.left source.new)) }
     ensures given { (at : Standing) → StandsAt lines.old at
         → IfOk result (HasGiven at lines.new) }
+    ensures ended { (at : Standing) → StandsAt lines.old at
+        → IfOk result (TellsEnd at lines.new) }
+    ensures asks { has_ended lines.old ≡ true → source.new ≡ source.old }
     ensures failed { IsTrue (has_failed lines.new) ↔ IsErr result }
     ensures leaves { LeavesRest (S.left source.old) (S.left source.new) }
     ensures cause { HasPlanCause (S.faults source.old) (S.faults source.new) result }
 {
+    if lines.ended {
+        return Ok(None);
+    }
     let given = gather_round(alloc, lines, source);
     lines.failed = given.is_err();
     given
 }
 
-// Reads the next round, whether or not the reader has failed.
+// Reads the next round of an input that hasn't ended, whether or not the reader has failed.
 fn gather_round<S: Source>(
     alloc: Global,
     lines: &mut Lines,
     source: &mut S,
 ) -> Result<Option<Round>, PlanError>
+    requires { has_ended lines.old ≡ false }
     ensures told { (text : List ℕ) (at : Standing) → StandsAt lines.old at
         → IsAhead (taken_by lines.old) (S.left source.old) text
         → MatchResult result
@@ -61,6 +69,8 @@ fn gather_round<S: Source>(
         (FailsRound at text (S.left source.new)) }
     ensures given { (at : Standing) → StandsAt lines.old at
         → IfOk result (HasGiven at lines.new) }
+    ensures ended { (at : Standing) → StandsAt lines.old at
+        → IfOk result (TellsEnd at lines.new) }
     ensures leaves { LeavesRest (S.left source.old) (S.left source.new) }
     ensures cause { HasPlanCause (S.faults source.old) (S.faults source.new) result }
 {
@@ -91,6 +101,7 @@ fn read_step<S: Source>(
         → IsAhead (taken_by lines.old) (S.left source.old) text
         → IfErr result (FailsStep now text (S.left source.new)) }
     ensures later { result ≡ Ok goes → lines.new.counts.lines ≡ lines.old.counts.lines + 1 }
+    ensures ended { IfOk result (IsAtEnd (has_ended lines.old) (has_ended lines.new)) }
     ensures leaves { LeavesRest (S.left source.old) (S.left source.new) }
     ensures cause { HasPlanCause (S.faults source.old) (S.faults source.new) result }
 {
@@ -100,6 +111,9 @@ fn read_step<S: Source>(
             take_says(&mut lines.counts, round, says)
         }
         Next::Long => Err(refusal(&lines.counts, LineKind::LongLine)),
-        Next::End => Ok(Progress::Over),
+        Next::End => {
+            lines.ended = true;
+            Ok(Progress::Over)
+        }
     }
 }

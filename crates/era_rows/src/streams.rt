@@ -34,8 +34,8 @@ static TAKES: [Row<'static>; 7] = [
         ..UNREAD
     },
     Row {
-        shows: "a take that is not made",
-        fails: &[Take(4)],
+        shows: "a take behind the one that told the end, which is not made",
+        fails: &[Take(3)],
         answer: Around(
             "open 1 64\n1 ok t0 m1 g2 d3\n2 ok g4 d5\n",
             "\n69 ok g138 d139\n70 ok g140 d141\nend 1 142\n",

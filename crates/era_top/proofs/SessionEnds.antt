@@ -4,13 +4,12 @@ use Rattle.std.proofs.lemmas.List.{append-nil}
 use Rattle.era_base.specs.declared.geometry.Geometry.{Geometry}
 use Rattle.era_base.specs.Faults.{Rose}
 use Rattle.era_line.specs.Lines.{lines_of}
-use Rattle.era_line.specs.Reading.{IsAhead}
 use Rattle.era_model.specs.declared.command.Command.{Command}
 use Rattle.era_model.specs.declared.history.Happening.{Happening}
 use Rattle.era_model.specs.History.{era_of}
 use Rattle.era_model.specs.Transcript.{Stop, ReadToEnd, SourceFault, NoMemory, stop_line, end_line}
 use Rattle.era_plan.specs.Errors.{HasErrorCause}
-use Rattle.era_plan.specs.Reading.{FailsRound, HasNoRound, StandsAt, taken_by}
+use Rattle.era_plan.specs.Reading.{FailsRound, HasNoRound, IsToRead, StandsAt, taken_by}
 use Rattle.era_plan.specs.Stream.{Standing, AtEnd, RefusedAt, stream_from}
 use Rattle.era_plan.specs.declared.round.LineKind.TheVariants.{NotYet}
 use Rattle.era_plan.specs.declared.round.PlanError.{PlanError}
@@ -83,7 +82,7 @@ module _ (g : Geometry) (contents : List ℕ) (around : Around) (given given' gi
 
   -- the stream was read to its end
   read-all : (so : SoFar g contents around given given' session lines) (lines' : Lines) → faults ≡ around.source_faults'
-      → ((text : List ℕ) (at : Standing) → StandsAt lines at → IsAhead (taken_by lines) around.left' text → HasNoRound at text (taken_by lines') left)
+      → ((text : List ℕ) (at : Standing) → StandsAt lines at → IsToRead lines around.left' text → HasNoRound at text (taken_by lines') left)
       → HasReadAll (behind_read around left faults) (record { journal = so.journal; rounds = so.rounds; stop = ReadToEnd })
   read-all so lines' kept none = record {
     stop = refl;
@@ -104,7 +103,7 @@ module _ (g : Geometry) (contents : List ℕ) (around : Around) (given given' gi
 
   -- and the session ends as its lists say
   pub goes-end : (so : SoFar g contents around given given' session lines) (lines' : Lines) → faults ≡ around.source_faults'
-      → ((text : List ℕ) (at : Standing) → StandsAt lines at → IsAhead (taken_by lines) around.left' text → HasNoRound at text (taken_by lines') left)
+      → ((text : List ℕ) (at : Standing) → StandsAt lines at → IsToRead lines around.left' text → HasNoRound at text (taken_by lines') left)
       → Prints given' given'' (end_line session.marks.era session.place) (end_status session.lacked) result
       → GoesOn g contents (behind_read around left faults) given given'' result
   goes-end so lines' kept none printed =
@@ -120,7 +119,7 @@ module _ (g : Geometry) (contents : List ℕ) (around : Around) (given given' gi
 
   -- the reader failed
   fails : (so : SoFar g contents around given given' session lines) (error : PlanError) → HasErrorCause around.source_faults' faults error
-      → ((text : List ℕ) (at : Standing) → StandsAt lines at → IsAhead (taken_by lines) around.left' text → FailsRound at text left error)
+      → ((text : List ℕ) (at : Standing) → StandsAt lines at → IsToRead lines around.left' text → FailsRound at text left error)
       → EndsBy g (behind_read around left faults) (record { journal = so.journal; rounds = so.rounds; stop = stop_of error }) (status_of error)
   fails so (LineError error) cause told = (
     done so (stop_of (LineError error)),
@@ -155,7 +154,7 @@ module _ (g : Geometry) (contents : List ℕ) (around : Around) (given given' gi
   )
 
   pub goes-stop : (so : SoFar g contents around given given' session lines) (error : PlanError) → HasErrorCause around.source_faults' faults error
-      → ((text : List ℕ) (at : Standing) → StandsAt lines at → IsAhead (taken_by lines) around.left' text → FailsRound at text left error)
+      → ((text : List ℕ) (at : Standing) → StandsAt lines at → IsToRead lines around.left' text → FailsRound at text left error)
       → Prints given' given'' (stop_line (stop_of error) ++ end_line session.marks.era session.place) (status_of error) result
       → GoesOn g contents (behind_read around left faults) given given'' result
   goes-stop so error cause told printed = ends so (stop_of error) (status_of error) (fails so error cause told) printed

@@ -5,13 +5,12 @@ use Rattle.std.proofs.lemmas.List.Folds.{list_any-append}
 use Rattle.std.proofs.lemmas.List.Sums.{sum_by-append, sum_by-cons}
 use Rattle.era_base.specs.declared.geometry.Geometry.{Geometry}
 use Rattle.era_base.specs.CrashModel.{State}
-use Rattle.era_line.specs.Reading.{IsAhead}
 use Rattle.era_model.specs.declared.command.Command.{Command}
 use Rattle.era_model.specs.declared.history.Happening.{Happening}
 use Rattle.era_model.specs.declared.history.Happening.TheVariants.{Opened}
 use Rattle.era_model.specs.Journal.{session_opening}
 use Rattle.era_model.specs.Marks.{no_marks}
-use Rattle.era_plan.specs.Reading.{GivesRound, HasGiven, HasGivenRound, ReadsRound, StandsAt, behind_round, lines_read, taken_by}
+use Rattle.era_plan.specs.Reading.{GivesRound, HasGiven, HasGivenRound, IsToRead, ReadsRound, StandsAt, behind_round, has_ended, lines_read, taken_by}
 use Rattle.era_plan.specs.Stream.{Standing, Stream, StreamEnd, at_beginning, with_round}
 use Rattle.era_plan.specs.declared.round.Round.{Round}
 use Rattle.era_plan.specs.declared.stream_reader.Lines.{Lines}
@@ -31,7 +30,7 @@ use Rattle.era_top.proofs.SessionSteps.{total-few}
 -- A text was read so far: these rounds of it, up to where the reader stands.
 pub record ReadSoFar (rounds : List (List Command)) (at : Standing) (text : List ℕ) (lines : Lines) (left : Option (List ℕ)) : Type 0 where
   pub rest : List ℕ
-  pub ahead : IsAhead (taken_by lines) left rest
+  pub ahead : IsToRead lines left rest
   pub stands : StandsBehind rounds text rest at
 
 -- What was run, answered and read so far.
@@ -84,10 +83,10 @@ with-rounds-push rounds round stream = ap (λ all. stream_of all stream.end) (sy
 -- nothing was run yet
 pub so_far-none : (g : Geometry) (contents : List ℕ) (around : Around) (given : Option (List ℕ)) (session : Progress) (lines : Lines)
     → session.marks ≡ no_marks g.sectors g.block_sectors 1 → session.place ≡ 0 → session.lacked ≡ false
-    → StandsAt lines at_beginning → taken_by lines ≡ []
+    → StandsAt lines at_beginning → taken_by lines ≡ [] → has_ended lines ≡ false
     → around.left' ≡ around.left → around.source_faults' ≡ around.source_faults → around.disk_faults' ≡ around.disk_faults → around.disk' ≡ around.disk
     → SoFar g contents around given given session lines
-so_far-none g contents around given session lines marks place lacked stands taken left kept faults disk = record {
+so_far-none g contents around given session lines marks place lacked stands taken going left kept faults disk = record {
   rounds = [];
   outcomes = [];
   journal = Opened (session_opening g contents) ∷ [];
@@ -98,7 +97,10 @@ so_far-none g contents around given session lines marks place lacked stands take
   same = refl;
   read = λ text is. record {
     rest = text;
-    ahead = record { rest = text; told = left ∙ is; joined = ap (λ front. front ++ text) taken };
+    ahead = record {
+      ahead = record { rest = text; told = left ∙ is; joined = ap (λ front. front ++ text) taken };
+      behind_end = λ ended. absurd (let no : true ≡ false = sym ended ∙ going in cc);
+    };
     stands = record { between = refl; stream = refl };
   };
   kept = kept;
@@ -147,7 +149,7 @@ behind_run around faults disk = record {
 -- What the reader did: it gave a round of what was to be read.
 abbrev pub GivesNext : Lines → Option (List ℕ) → List Command → Lines → Option (List ℕ) → Type 0
 GivesNext lines left round lines' left' =
-    (text : List ℕ) (at : Standing) → StandsAt lines at → IsAhead (taken_by lines) left text → ReadsRound at text round (lines_read lines') (taken_by lines') left'
+    (text : List ℕ) (at : Standing) → StandsAt lines at → IsToRead lines left text → ReadsRound at text round (lines_read lines') (has_ended lines') (taken_by lines') left'
 
 -- the round that was given, by its commands
 pub given-round : (at : Standing) (lines' : Lines) (option : Option Round) (round : Round) (commands : List Command) → option ≡ Some round → commands ≡ round.commands
@@ -156,10 +158,10 @@ given-round at lines' option round commands is same given = subst (λ l. HasGive
 
 pub given-next : (lines : Lines) (left : Option (List ℕ)) (lines' : Lines) (left' : Option (List ℕ)) (option : Option Round) (round : Round) (commands : List Command)
     → option ≡ Some round → commands ≡ round.commands
-    → ((text : List ℕ) (at : Standing) → StandsAt lines at → IsAhead (taken_by lines) left text → GivesRound at text lines' left' option)
+    → ((text : List ℕ) (at : Standing) → StandsAt lines at → IsToRead lines left text → GivesRound at text lines' left' option)
     → GivesNext lines left commands lines' left'
 given-next lines left lines' left' option round commands is same gives = λ text at stands ahead.
-    subst (λ l. ReadsRound at text l (lines_read lines') (taken_by lines') left') (sym same)
+    subst (λ l. ReadsRound at text l (lines_read lines') (has_ended lines') (taken_by lines') left') (sym same)
     (subst (GivesRound at text lines' left') is (gives text at stands ahead))
 
 -- what isn't true

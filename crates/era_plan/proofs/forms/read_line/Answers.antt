@@ -1,4 +1,4 @@
-use Rattle.std.proofs.Common.{◌≡◌, ◌∷◌, ap, ◌∙◌}
+use Rattle.std.proofs.Common.{◌∷◌, ap, ◌∙◌}
 use Rattle.era_plan.proofs.LineForms.{five-words}
 use Rattle.era_plan.proofs.forms.read_line.Goals as goal
 

@@ -1,4 +1,4 @@
-use Rattle.std.proofs.Common.{◌^◌, ap, sym, ◌∙◌, arith}
+use Rattle.std.proofs.Common.{ap, sym, ◌∙◌, arith}
 use Rattle.era_plan.proofs.WordNumbers.{count-decimal, count-none, count-past}
 use Rattle.era_plan.proofs.numbers.read_count.Goals.{else-count-gt0-via-then-count-gt0+else-count-le-MOST_SECTORS, else-count-gt0-via-else-count-gt0}
 use Rattle.era_plan.specs.Numbers.{count_of}

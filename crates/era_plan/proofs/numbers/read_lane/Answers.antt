@@ -1,4 +1,4 @@
-use Rattle.std.proofs.Common.{◌^◌, ap, sym, ◌∙◌, arith}
+use Rattle.std.proofs.Common.{ap, sym, ◌∙◌, arith}
 use Rattle.era_plan.specs.Numbers.{number_of}
 use Rattle.era_plan.proofs.WordNumbers.{number-decimal, number-past}
 use Rattle.era_plan.proofs.numbers.read_lane.Goals as goal

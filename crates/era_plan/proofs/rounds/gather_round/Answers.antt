@@ -1,6 +1,8 @@
-use Rattle.std.proofs.Common.{◌≡◌, ℕ, [], List, refl, sym, ◌∙◌, subst}
+use Rattle.std.proofs.Common.{[], refl, ◌∙◌}
 use Rattle.std.proofs.lemmas.Result.{err_from_is_err_and}
-use Rattle.era_plan.proofs.ReadingSteps.{fails-step, given-ended, leaves-more, over-given, over-told, reading-line, reading-start, reads-ended}
+use Rattle.era_plan.proofs.ReadingSteps.{leaves-more, reading-line, reading-start}
+use Rattle.era_plan.proofs.RefusedLines.{fails-step}
+use Rattle.era_plan.proofs.RoundEndings.{given-ended, over-given, over-tells, over-told, reads-ended, tells-ended}
 use Rattle.era_plan.proofs.rounds.gather_round.Goals as goal
 
 pub loop-round-init : goal.loop-round-init
@@ -8,6 +10,7 @@ loop-round-init g c = record {
   reading = λ at stands. reading-start at _ _ _ _ stands c.new-round.ensures;
   leaves = λ bytes told. record { front = []; rest = bytes; told = told; joined = refl };
   kept = refl;
+  going = c.requires;
 }
 
 -- a line more goes on with the round
@@ -21,6 +24,7 @@ loop-round-preserved g c =
           reading-line at _ _ _ _ _ _ _ _ _ _ c.read_step.new.lines.line.items reading reads (steps reading.now reading.stands);
       leaves = leaves-more _ _ _ c.loop-round.invariant.leaves c.in_ok-read_step.ensures.leaves;
       kept = c.in_ok-read_step.ensures.cause ∙ c.loop-round.invariant.kept;
+      going = (rw c.in-Goes.is at c.in_ok-read_step.ensures.ended) ∙ c.loop-round.invariant.going;
     }
 
 -- a line could not be taken
@@ -38,7 +42,9 @@ returns-in-Ends-clause-told g c = λ text at stands ahead.
     let steps = rw c.in-Ends.is at c.in_ok-read_step.ensures.steps in
     let reads = rw c.in-Ends.is at c.in_ok-read_step.ensures.reads in
     let step = steps reading.now reading.stands in
-    rw c.finish.ensures (reads-ended at _ _ _ _ _ _ _ c.read_step.new.lines.counts _ c.read_step.new.round c.read_step.new.lines.line.items reading stands.between step.1 reads step.0 text ahead)
+    let going = rw c.in-Ends.is at c.in_ok-read_step.ensures.ended in
+    rw c.finish.ensures (reads-ended at _ _ _ _ _ _ c.read_step.new.lines _ c.read_step.new.round c.read_step.new.lines.line.items reading stands.between step.1 reads step.0
+    (going ∙ c.loop-round.invariant.going) text ahead)
 
 pub returns-in-Ends-clause-given : goal.returns-in-Ends-clause-given
 returns-in-Ends-clause-given g c = λ at stands.
@@ -46,6 +52,15 @@ returns-in-Ends-clause-given g c = λ at stands.
     let steps = rw c.in-Ends.is at c.in_ok-read_step.ensures.steps in
     let step = steps reading.now reading.stands in
     rw c.finish.ensures (given-ended at _ _ _ _ _ c.read_step.new.lines.counts _ c.read_step.new.round c.read_step.new.lines.line.items reading stands.between step.1 step.0)
+
+pub returns-in-Ends-clause-ended : goal.returns-in-Ends-clause-ended
+returns-in-Ends-clause-ended g c = λ at stands.
+    let reading = c.loop-round.invariant.reading at stands in
+    let steps = rw c.in-Ends.is at c.in_ok-read_step.ensures.steps in
+    let step = steps reading.now reading.stands in
+    let going = rw c.in-Ends.is at c.in_ok-read_step.ensures.ended in
+    rw c.finish.ensures (tells-ended at _ _ _ _ _ c.read_step.new.lines _ c.read_step.new.round c.read_step.new.lines.line.items reading stands.between step.1 step.0
+    (going ∙ c.loop-round.invariant.going))
 
 -- the input has ended
 pub returns-in-Over-clause-told : goal.returns-in-Over-clause-told
@@ -62,6 +77,12 @@ returns-in-Over-clause-given g c = λ at stands.
     let steps = rw c.in-Over.is at c.in_ok-read_step.ensures.steps in
     over-given at _ _ _ _ _ _ c.read_step.new.round c.read_step.new.lines c.end.result reading stands.between (steps reading.now reading.stands)
     c.end.ensures.some c.end.ensures.full c.end.ensures.none
+
+pub returns-in-Over-clause-ended : goal.returns-in-Over-clause-ended
+returns-in-Over-clause-ended g c = λ at stands.
+    let reading = c.loop-round.invariant.reading at stands in
+    let steps = rw c.in-Over.is at c.in_ok-read_step.ensures.steps in
+    over-tells at _ _ _ _ _ _ c.read_step.new.round c.read_step.new.lines c.end.result reading stands.between (steps reading.now reading.stands) c.end.ensures.some (rw c.in-Over.is at c.in_ok-read_step.ensures.ended)
 
 -- what is left of the source is a rest of what was left
 pub returns-in_err-read_step-clause-leaves : goal.returns-in_err-read_step-clause-leaves

@@ -1,6 +1,5 @@
-use Rattle.std.proofs.Common.{◌≡◌, ℕ, List, refl, sym, ◌∙◌, subst}
 use Rattle.std.proofs.lemmas.Result.{err_from_is_err_and}
-use Rattle.era_plan.proofs.ReadingSteps.{step-cause, step-fails, step-fails-read, step-long, step-reads}
+use Rattle.era_plan.proofs.RefusedLines.{step-cause, step-fails, step-fails-read, step-long, step-reads}
 use Rattle.era_plan.proofs.Sayable.{sayable-is}
 use Rattle.era_plan.proofs.rounds.read_step.Goals as goal
 

@@ -10,7 +10,7 @@ use Rattle.era_top.proofs.session.serve_rounds.Goals as goal
 -- nothing was run yet
 pub loop-round-init : goal.loop-round-init
 loop-round-init g c = record {
-  so_far = λ contents. so_far-none c.args.geometry.now contents _ _ _ _ c.requires.marks refl refl c.new-lines.ensures.stands c.new-lines.ensures.taken refl refl refl refl;
+  so_far = λ contents. so_far-none c.args.geometry.now contents _ _ _ _ c.requires.marks refl refl c.new-lines.ensures.stands c.new-lines.ensures.taken c.new-lines.ensures.ended refl refl refl refl;
   reads = c.new-lines.ensures.failed;
   marks = ap blocks_of_marks c.requires.marks;
   sectors = c.requires.disk;
