@@ -1,6 +1,6 @@
 //! Writes the dump text of marks. Text goes out in pieces; only the logical dump takes memory.
 
-ghost use Rattle.std.specs.Prelude.{◌≡◌, ◌++◌, List, ℕ, Some, codes, MatchResult};
+ghost use Rattle.std.specs.Prelude.{◌≡◌, ◌++◌, List, ℕ, Some, codes, true, MatchResult, IsErrOf};
 ghost use Rattle.era_base.specs.Faults.{HasCause};
 ghost use Rattle.era_line.specs.TextBuffer.{Adds};
 ghost use Rattle.era_text.specs.Pieces.{ended, lines_text_of, set_text, sets_text, current_text, lists_text};
@@ -98,6 +98,7 @@ fn see_runs(sets: &[MarkedSet])
 /// Writes the dump of marks as they are.
 fn write_marks<K: Sink>(marks: &Marks, sink: &mut K) -> Result<(), TextEnd>
     ensures given { GivesDump marks.now (K.given sink.old) (K.given sink.new) result }
+    ensures memory { IsErrOf result TextEnd.Memory → ⊥ }
     ensures cause { HasWriteCause (K.faults sink.old) (K.faults sink.new) result }
 {
     see_runs(marks.archive.as_slice());
@@ -129,6 +130,7 @@ pub fn write_dump<K: Sink>(
 ) -> Result<(), TextEnd>
     ensures given { GivesDump (dumped_marks marks.now logical)
         (K.given sink.old) (K.given sink.new) result }
+    ensures memory { IsErrOf result TextEnd.Memory → logical ≡ true }
     ensures cause { HasWriteCause (K.faults sink.old) (K.faults sink.new) result }
 {
     if !logical {
