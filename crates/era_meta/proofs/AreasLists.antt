@@ -1,5 +1,5 @@
 -- Predicates on all items of lists, and lists of consecutive numbers.
-use Rattle.std.proofs.Common.{◌≡◌, ℕ, zero, suc, ◌+◌, ◌<◌, ◌≤◌, List, [], ◌∷◌, ◌++◌, length, ap, ◌∙◌, arith}
+use Rattle.std.proofs.Common.{◌≡◌, ℕ, zero, suc, ◌+◌, ◌<◌, ◌≤◌, List, [], ◌∷◌, ◌++◌, length, take, refl, ap, ◌∙◌, arith}
 use Rattle.std.specs.Prelude.{All, slice_index}
 use Rattle.std.specs.List.{AllByRecursion}
 use Rattle.std.proofs.lemmas.List.Elements.{All-from_recursion, recursion_from_All}
@@ -81,3 +81,9 @@ numbers-different first count = λ one two before within same.
     let one' : one < count = omega arith in
     let is = number-at first count one one' in let is' = number-at first count two two' in
     omega (arith, same, is, is')
+
+-- the first of consecutive numbers
+pub first-of : (first count size : ℕ) → count ≤ size → take count (numbers_from first size) ≡ numbers_from first count
+first-of first zero size le = refl
+first-of first (suc count) zero le = absurd (omega arith)
+first-of first (suc count) (suc size) le = ap (λ (numbers : List ℕ). first ∷ numbers) (first-of (first + 1) count size (omega arith))

@@ -1,5 +1,5 @@
 -- The moments of a commit and its end: the old meaning or the new one, and after Ok the new one alone.
-use Rattle.std.proofs.Common.{◌≡◌, ℕ, ◌+◌, ◌*◌, ◌≤◌, Bool, true, false, Option, refl, sym, ◌∙◌, subst, arith, inl, inr}
+use Rattle.std.proofs.Common.{◌≡◌, ℕ, ◌+◌, ◌*◌, ◌<◌, ◌≤◌, Bool, true, false, List, Option, refl, sym, ◌∙◌, subst, arith, inl, inr}
 use Rattle.std.proofs.lemmas.Bool.{false≢true}
 use Rattle.std.specs.List.{AllByRecursion}
 use Rattle.era_base.specs.Geometry.{need_of}
@@ -170,6 +170,13 @@ stored-leave left either bodies target number root next held held_next before no
           let numbered = was.1.1.numbered in
           absurd (omega (arith, numbered, older))
     ]
+
+-- and no failed commit left another meaning
+pub stored-alone : (target number : ℕ) (body : List ℕ) (now : State) (left : Meaning) → 0 < number → IsStored target number body now → ¬ IsLeft (other target) (number + 1) left now
+stored-alone target number body now left some stored was =
+    let older = stored.older some in
+    let numbered = was.numbered in
+    omega (arith, numbered, older)
 
 -- a commit that failed
 pub failed-keeps : (target number : ℕ) (may_be_open : Bool) (root next : RootFields) (held held_next : Option RootFields) (before now : State)

@@ -6,17 +6,17 @@ use Rattle.era_model.specs.EraRuns.{EndWithin, StandsBehindAll, StandsBehind}
 use Rattle.era_model.specs.MarkRuns.{era_in_runs}
 use Rattle.era_meta.specs.AsRuns.{TellEntries}
 
-within-run : (first last block : ℕ) → first ≤ block → block ≤ last → (nat_le first block && nat_le block last) ≡ true
+pub within-run : (first last block : ℕ) → first ≤ block → block ≤ last → (nat_le first block && nat_le block last) ≡ true
 within-run first last block from to = rw (le-leb first block from, le-leb block last to) refl
 
-before-run : (first last block : ℕ) → block < first → (nat_le first block && nat_le block last) ≡ false
+pub before-run : (first last block : ℕ) → block < first → (nat_le first block && nat_le block last) ≡ false
 before-run first last block early = rw (lt-leb first block early) refl
 
 and-false : (flag : Bool) → (flag && false) ≡ false
 and-false true = refl
 and-false false = refl
 
-behind-run : (first last block : ℕ) → last < block → (nat_le first block && nat_le block last) ≡ false
+pub behind-run : (first last block : ℕ) → last < block → (nat_le first block && nat_le block last) ≡ false
 behind-run first last block late = rw (lt-leb block last late) (and-false (nat_le first block))
 
 -- runs that end before a block

@@ -1,32 +1,25 @@
 -- The metadata stands through the taking and the dropping of a snapshot.
-use Rattle.std.proofs.Common.{◌≡◌, ℕ, ◌*◌, ◌≤◌, Bool, false, Option, Some, None, sym, ap, ◌∙◌, subst}
+use Rattle.std.proofs.Common.{◌≡◌, ℕ, ◌*◌, ◌≤◌, Bool, false, sym, ap, ◌∙◌, subst}
 use Rattle.era_base.specs.CrashModel.{State}
 use Rattle.era_base.specs.Geometry.{need_of}
 use Rattle.era_base.specs.declared.disk.Disk.{Ghosts}
-use Rattle.era_layout.specs.Root.{RootFields, fields_of, pages_of}
+use Rattle.era_layout.specs.Root.{fields_of}
 use Rattle.era_model.specs.Marks.{BlockMarks}
 use Rattle.era_slots.specs.declared.slots.Slots.{Slots}
 use Rattle.era_meta.specs.declared.metadata.Meta.{Meta}
-use Rattle.era_meta.specs.Areas.{LieInAnArea, LieInAreas}
 use Rattle.era_meta.specs.Content.{blocks_of_root}
-use Rattle.era_meta.specs.Held.{snapshot_marks, snapshot_root}
+use Rattle.era_meta.specs.Held.{snapshot_marks}
 use Rattle.era_meta.specs.HeldCalls.{with_snapshot}
 use Rattle.era_meta.specs.InMemory.{meaning_in, FitTogether, IsAheadOf, MetaStands}
 use Rattle.era_meta.specs.Meaning.{Meaning}
 use Rattle.era_meta.specs.SnapshotCalls.{HasHeld, StillHolds}
 use Rattle.era_meta.proofs.HeldPut.{flag-valid}
 
--- a root's own pages lie in one area
-pub lie-own : (root : RootFields) (held : Option RootFields) → LieInAreas root held → LieInAnArea (blocks_of_root root) (pages_of root)
-lie-own root None lie = lie
-lie-own root (Some held) lie = lie.0
-
 -- a snapshot that is dropped is room for the next one
 pub dropped-fit : {D : Type 0} (disk : Ghosts D) (old : Meta D) (slots : Slots D) → disk.sectors slots.disk ≡ disk.sectors old.slots.disk → FitTogether disk old
     → FitTogether disk (record old { slots = slots; root = record old.root { held = false }; snapshot = record old.snapshot { is_held = false } })
 dropped-fit disk old slots size fit = record {
   valid = flag-valid (fields_of old.root) false fit.valid;
-  lie = lie-own (fields_of old.root) (snapshot_root old.snapshot) fit.lie;
   sectors = fit.sectors;
   block_sectors = fit.block_sectors;
   lists = fit.lists;
@@ -40,7 +33,6 @@ pub same-fit : {D : Type 0} (disk : Ghosts D) (old : Meta D) (slots : Slots D) �
     → FitTogether disk (record old { slots = slots })
 same-fit disk old slots size fit = record {
   valid = fit.valid;
-  lie = fit.lie;
   sectors = fit.sectors;
   block_sectors = fit.block_sectors;
   lists = fit.lists;

@@ -1,21 +1,25 @@
 -- The metadata stands through its calls, whatever the marks in memory become.
-use Rattle.std.proofs.Common.{◌≡◌, ℕ, Bool, true, false, List, [], ◌∷◌, length, refl, sym, ap, ◌∙◌, subst}
+use Rattle.std.proofs.Common.{◌≡◌, ℕ, suc, ◌+◌, ◌*◌, ◌≤◌, Bool, true, false, Some, None, List, [], ◌∷◌, ◌++◌, length, refl, sym, ap, ◌∙◌, subst, arith, add-mul}
+use Rattle.std.specs.List.{AllByRecursion}
+use Rattle.std.proofs.lemmas.List.{length-append}
+use Rattle.std.proofs.lemmas.Nat.{mul-le}
 use Rattle.std.specs.Prelude.{nat_lt, if◌then◌else◌}
 use Rattle.era_base.specs.CrashModel.{State}
 use Rattle.era_base.specs.declared.disk.Disk.{Ghosts}
-use Rattle.era_layout.specs.Root.{RootFields, fields_of, pages_of}
+use Rattle.era_layout.specs.Root.{RootFields, archive_pages, fields_of, pages_of}
+use Rattle.era_layout.specs.declared.archive.Archived.{Archived}
+use Rattle.era_base.specs.Geometry.{array_pages_of, bit_pages_of, root_pages_of}
 use Rattle.era_base.specs.declared.limits.TheConstants.{MOST_SETS}
 use Rattle.era_model.specs.Marks.{ArchivedSet, BlockMarks, blocks_of_marks, rolled, with_oldest_merged}
 use Rattle.era_meta.specs.declared.metadata.Meta.{Meta}
 use Rattle.era_meta.specs.declared.snapshot.Snapshot.{Snapshot}
-use Rattle.era_meta.specs.Areas.{page_count, HasPageLists, TakesLeastArea}
+use Rattle.era_meta.specs.Areas.{page_count, HasPageLists, HaveFewPages}
 use Rattle.era_meta.specs.Content.{blocks_of_root}
-use Rattle.era_meta.specs.Held.{snapshot_marks}
+use Rattle.era_meta.specs.Held.{snapshot_marks, snapshot_root}
 use Rattle.era_meta.specs.InMemory.{meaning_in, FitTogether, HasStored, IsAheadOf, IsSnapshotBeside, MetaStands, StillStores}
 use Rattle.era_meta.specs.Meaning.{Meaning}
 use Rattle.era_meta.specs.MetaCalls.{CommitsMarks, FailsToCommitMarks}
 use Rattle.era_meta.specs.SaysMarks.{IsRootFor}
-use Rattle.era_meta.proofs.AreasLists.{length-numbers}
 use Rattle.era_meta.proofs.AreasPrepared.{length-sets}
 
 -- other marks of the same geometry belong to the parts too
@@ -23,7 +27,6 @@ pub fit-with : {D : Type 0} (disk : Ghosts D) (meta : Meta D) (marks : BlockMark
     → FitTogether disk meta → FitTogether disk (record meta { marks = marks; unstored = unstored })
 fit-with disk meta marks unstored sectors block_sectors fit = record {
   valid = fit.valid;
-  lie = fit.lie;
   sectors = fit.sectors ∙ sym sectors;
   block_sectors = fit.block_sectors ∙ sym block_sectors;
   lists = fit.lists;
@@ -77,11 +80,42 @@ fails-as disk old new m m' n u v same did =
     })
 
 -- as many pages are put as the marks need
-pub pages-count : (blocks : ℕ) (used : _) (next : RootFields) (m : BlockMarks) → blocks ≡ blocks_of_marks m → TakesLeastArea blocks used next → IsRootFor next m
+pub pages-count : (blocks : ℕ) (next : RootFields) (m : BlockMarks) → blocks ≡ blocks_of_marks m → length (pages_of next) ≡ page_count blocks (length next.archive) → IsRootFor next m
     → length (pages_of next) ≡ page_count (blocks_of_marks m) (length m.archive)
-pages-count blocks used next m same area for =
-    ap length area.2 ∙ length-numbers _ (page_count blocks (length next.archive))
-    ∙ ap (page_count blocks) (length-sets m.archive next.archive for.archive) ∙ ap (λ (n : ℕ). page_count n (length m.archive)) same
+pages-count blocks next m same count for =
+    count ∙ ap (page_count blocks) (length-sets m.archive next.archive for.archive) ∙ ap (λ (n : ℕ). page_count n (length m.archive)) same
+
+-- as many pages as the archived sets have
+archive-count : (width : ℕ) (sets : List Archived) → AllByRecursion (λ set. length set.pages ≡ width) sets → length (archive_pages sets) ≡ length sets * width
+archive-count width [] all = omega arith
+archive-count width (set ∷ sets) all =
+    let rest = archive-count width sets all.1 in let size = length-append set.pages (archive_pages sets) in let one = all.0 in
+    let split = add-mul 1 (length sets) width in let e : suc (length sets) ≡ 1 + length sets = omega arith in
+    rw e (omega arith)
+
+-- no root has more pages than a page area
+lists-few : (blocks : ℕ) (root : RootFields) → length root.array ≡ array_pages_of blocks → length root.current ≡ bit_pages_of blocks → length root.archive ≤ MOST_SETS
+    → AllByRecursion (λ set. length set.pages ≡ bit_pages_of blocks) root.archive → length (pages_of root) ≤ root_pages_of blocks
+lists-few blocks root array current few sets =
+    let w = bit_pages_of blocks in
+    let front = length-append (root.array ++ root.current) (archive_pages root.archive) in
+    let own = length-append root.array root.current in
+    let rest = archive-count w root.archive sets in
+    let most = mul-le (length root.archive) w 16 w few (let e : w ≤ w = omega arith in e) in
+    omega arith
+
+held-few : (blocks : ℕ) (root : RootFields) (is_held : Bool) (held : RootFields) → length (pages_of root) ≤ root_pages_of blocks → length (pages_of held) ≤ root_pages_of blocks
+    → HaveFewPages blocks root (if is_held then Some held else None)
+held-few blocks root true held one two = (one, two)
+held-few blocks root false held one two = one
+
+pub few-pages : {D : Type 0} (disk : Ghosts D) (meta : Meta D) → FitTogether disk meta
+    → HaveFewPages (blocks_of_root (fields_of meta.root)) (fields_of meta.root) (snapshot_root meta.snapshot)
+few-pages disk meta fit =
+    let root = fields_of meta.root in let blocks = blocks_of_root root in
+    held-few blocks root meta.snapshot.is_held (fields_of meta.snapshot.root)
+    (lists-few blocks root fit.valid.array fit.valid.current fit.valid.count fit.valid.sets)
+    (lists-few blocks (fields_of meta.snapshot.root) fit.snapshot.lists.array fit.snapshot.lists.current fit.snapshot.count fit.snapshot.lists.sets)
 
 -- a mark keeps the geometry
 pub flags-sectors : (m n : BlockMarks) (flags : List Bool) → n ≡ record m { current = flags } → n.sectors ≡ m.sectors

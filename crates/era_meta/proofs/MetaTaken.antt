@@ -7,13 +7,12 @@ use Rattle.era_base.specs.CrashModel.{State}
 use Rattle.era_base.specs.Geometry.{bit_pages_of, need_of}
 use Rattle.era_base.specs.declared.disk.Disk.{Ghosts}
 use Rattle.era_layout.specs.declared.archive.Archived.{Archived}
-use Rattle.era_layout.specs.Root.{RootFields, fields_of, pages_of}
+use Rattle.era_layout.specs.Root.{RootFields, fields_of}
 use Rattle.era_layout.specs.declared.root.Root.{Root}
 use Rattle.era_model.specs.Marks.{BlockMarks}
 use Rattle.era_slots.specs.declared.slots.Slots.{Slots}
 use Rattle.era_meta.specs.declared.metadata.Meta.{Meta}
 use Rattle.era_meta.specs.declared.snapshot.Snapshot.{Snapshot}
-use Rattle.era_meta.specs.Areas.{LieInAnArea, LieInAreas}
 use Rattle.era_meta.specs.Content.{blocks_of_root}
 use Rattle.era_meta.specs.Copies.{CanCopyRoot, IsSnapshotOf}
 use Rattle.era_meta.specs.Held.{snapshot_marks, snapshot_root}
@@ -24,18 +23,12 @@ use Rattle.era_meta.specs.Stored.{IsStoredRoot}
 use Rattle.era_meta.proofs.AreasNumbered.{all_drop}
 use Rattle.era_meta.proofs.AreasPrepared.{all_lists}
 use Rattle.era_meta.proofs.HeldPut.{flag-valid}
-use Rattle.era_meta.proofs.MetaHeld.{lie-own}
-
-lie-flag : (root : RootFields) (flag : Bool) (held : Option RootFields) → LieInAreas root held → LieInAreas (with_flag root flag) held
-lie-flag root flag None lie = lie
-lie-flag root flag (Some held) lie = lie
 
 -- the flag of the committed root belongs to no other part
 pub flag-fit : {D : Type 0} (disk : Ghosts D) (old : Meta D) (slots : Slots D) (flag : Bool) → disk.sectors slots.disk ≡ disk.sectors old.slots.disk → FitTogether disk old
     → FitTogether disk (record old { slots = slots; root = record old.root { held = flag } })
 flag-fit disk old slots flag size fit = record {
   valid = flag-valid (fields_of old.root) flag fit.valid;
-  lie = lie-flag (fields_of old.root) flag (snapshot_root old.snapshot) fit.lie;
   sectors = fit.sectors;
   block_sectors = fit.block_sectors;
   lists = fit.lists;
@@ -92,10 +85,9 @@ held-fit disk old archive released spare root marks fit is left none same marks_
     let rest : length spare ≡ length all - length old.root.archive = ap length left ∙ length-drop (length old.root.archive) all in
     let sets : root.archive ≡ old.root.archive = ap (λ (r : RootFields). r.archive) same in
     let size = ap length sets in let empty = ap length none in
-    let count = one.1 in let more = two.1 in let total = fit.total in let few = fit.valid.count in let own = lie-own fields (snapshot_root old.snapshot) fit.lie in
+    let count = one.1 in let more = two.1 in let total = fit.total in let few = fit.valid.count in
     record {
       valid = fit.valid;
-      lie = (own, subst (λ (r : RootFields). LieInAnArea blocks (pages_of r)) (sym same) own);
       sectors = fit.sectors;
       block_sectors = fit.block_sectors;
       lists = record {

@@ -1,7 +1,6 @@
 -- The first damage: there is one at most, and none where all tests pass.
-use Rattle.std.proofs.Common.{◌≡◌, ◌⊎◌, ℕ, ◌+◌, ◌<◌, ◌≤◌, true, false, List, [], ◌∷◌, Some, refl, sym, ap, ◌∙◌, subst, arith, inl, inr}
+use Rattle.std.proofs.Common.{◌≡◌, ℕ, false, List, [], ◌∷◌, Some, sym, ap, ◌∙◌, subst, arith, inl, inr}
 use Rattle.std.proofs.lemmas.Bool.{false≢true}
-use Rattle.std.specs.List.{AllByRecursion}
 use Rattle.era_layout.specs.declared.damage.DamageKind.{DamageKind}
 use Rattle.era_layout.specs.declared.damage.RootError.{RootError}
 use Rattle.era_layout.specs.Damage.{HeldPasses, Passes as RootPasses, root_kinds, IsFirstOf, NoneApplies, NoneAppliesOf}
@@ -10,7 +9,7 @@ use Rattle.era_layout.specs.Pages.{IsArrayPage, FlagsEndAt}
 use Rattle.era_layout.specs.Root.{RootFields, root_bytes, IsValidRoot}
 use Rattle.era_layout.proofs.FirstKind.{not_first}
 use Rattle.era_slots.specs.Slot.{body_of, page_of}
-use Rattle.era_meta.specs.Damage.{Damage, Test, SlotNumber, SlotNumbers, SlotRoot, ArrayPage, BitsPage, HeldRoot, HeldSize, Passes, Finds, SaysFirst, PassAll, FindsFirst, IsRootDamage, IsArrayDamage, IsBitsDamage, held_body}
+use Rattle.era_meta.specs.Damage.{Damage, Test, SlotNumber, SlotNumbers, SlotRoot, ArrayPage, BitsPage, HeldRoot, HeldSize, Passes, Finds, PassAll, FindsFirst, IsRootDamage, IsArrayDamage, IsBitsDamage, held_body}
 
 -- the laws of roots that the lemmas below take
 abbrev pub NoneOfRoot : Type 0

@@ -1,11 +1,10 @@
 -- What a disk keeps that was opened and undamaged.
-use Rattle.std.proofs.Common.{◌≡◌, ◌↔◌, ℕ, zero, suc, ◌+◌, ◌*◌, ◌<◌, ◌≤◌, Bool, true, false, List, length, Option, refl, sym, ap, ◌∙◌, subst, arith}
-use Rattle.std.specs.List.{AllByRecursion}
+use Rattle.std.proofs.Common.{◌≡◌, ℕ, zero, suc, ◌+◌, ◌<◌, Bool, true, Option, refl, sym, ap, ◌∙◌, subst, arith}
 use Rattle.era_base.specs.CrashModel.{State, IsClean}
 use Rattle.era_layout.specs.Root.{RootFields, root_bytes}
-use Rattle.era_slots.specs.Slot.{other, SlotIsOpen, commit_number, body_of, IsCommitNumber, IsActive}
+use Rattle.era_slots.specs.Slot.{other, SlotIsOpen, commit_number, body_of, IsActive}
 use Rattle.era_slots.specs.Standing.{IsDurable, Stands}
-use Rattle.era_meta.specs.Meaning.{Meaning, pages_in, reached, IsRootBody, IsWholeRoot, IsImageOf}
+use Rattle.era_meta.specs.Meaning.{pages_in, reached, IsRootBody, IsWholeRoot, IsImageOf}
 use Rattle.era_meta.specs.Keeping.{stored_in, HasRoom, Keeps}
 use Rattle.era_meta.proofs.Agree.{all_weaker}
 use Rattle.era_meta.proofs.Kept.{LiesIn, reached-lies}

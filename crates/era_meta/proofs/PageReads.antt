@@ -1,11 +1,10 @@
 -- A page that is read and tested.
-use Rattle.std.proofs.Common.{◌≡◌, ◌⊎◌, ℕ, ◌+◌, ◌-◌, ◌*◌, ◌<◌, ◌≤◌, min, Bool, true, false, List, [], ◌∷◌, length, get_or, Result, Ok, Err, refl, sym, ◌∙◌, subst, arith, inl, inr}
-use Rattle.std.specs.Prelude.{MatchResult}
+use Rattle.std.proofs.Common.{◌≡◌, ℕ, ◌+◌, ◌-◌, ◌*◌, ◌<◌, ◌≤◌, min, Bool, true, false, List, [], ◌∷◌, length, get_or, Ok, Err, refl, sym, ◌∙◌, subst, arith, inl, inr}
 use Rattle.std.proofs.lemmas.Bool.{cases_lt}
 use Rattle.std.proofs.lemmas.List.{get_or_past}
 use Rattle.era_base.specs.Flags.{has}
 use Rattle.era_base.specs.Calls.{EachMoment, MakesCalls, SameDisk}
-use Rattle.era_base.specs.CrashModel.{State, History, Went, clock}
+use Rattle.era_base.specs.CrashModel.{State}
 use Rattle.era_base.specs.declared.disk.Disk.{Ghosts}
 use Rattle.era_base.specs.Faults.{HasCount}
 use Rattle.era_base.proofs.Moments.{went-now}
@@ -16,9 +15,9 @@ use Rattle.era_slots.specs.Calls.{SameSlots}
 use Rattle.era_slots.specs.Slot.{page_of}
 use Rattle.era_meta.specs.declared.finding.Finding.{Finding}
 use Rattle.era_meta.specs.declared.finding.Finding.TheVariants as finding
-use Rattle.era_meta.specs.Damage.{Test, ArrayPage, BitsPage, Passes, Finds, PassAll, IsArrayDamage, IsBitsDamage}
+use Rattle.era_meta.specs.Damage.{Test, ArrayPage, BitsPage, PassAll, IsArrayDamage, IsBitsDamage}
 use Rattle.era_meta.specs.PageParts.{IsArrayPageOf, IsBitsPageOf}
-use Rattle.era_meta.specs.Walks.{reads_of, all_reads, EndsWith, WalkedIn, HasFindingCause, Walked, IsDamageAt, IsNoFault, IsFoundIn}
+use Rattle.era_meta.specs.Walks.{reads_of, all_reads, EndsWith, HasFindingCause, Walked, IsDamageAt, IsNoFault, IsFoundIn}
 
 -- a read that failed, for the first of some tests
 pub read-fault : {D T : Type 0} (disk : Ghosts D) (test : Test) (tests : List Test) (old new : Slots D) (count : ℕ) → 0 < reads_of test

@@ -1,5 +1,5 @@
 -- What the tests of a root's pages mean together: its content is whole exactly where all pass.
-use Rattle.std.proofs.Common.{◌≡◌, ℕ, zero, suc, ◌+◌, ◌-◌, ◌*◌, ◌<◌, min, List, [], ◌∷◌, ◌++◌, length, get_or, map, refl, sym, ap, ◌∙◌, subst, arith}
+use Rattle.std.proofs.Common.{◌≡◌, ℕ, zero, suc, ◌+◌, ◌-◌, ◌*◌, ◌<◌, min, List, [], ◌∷◌, ◌++◌, length, get_or, map, sym, subst, arith}
 use Rattle.std.proofs.lemmas.List.{get_or-map, length-map}
 use Rattle.std.specs.List.{AllByRecursion}
 use Rattle.era_layout.specs.declared.archive.Archived.{Archived}
@@ -7,7 +7,7 @@ use Rattle.era_layout.specs.Pages.{IsArrayPage, FlagsEndAt}
 use Rattle.era_layout.specs.Root.{RootFields}
 use Rattle.era_slots.specs.Slot.{page_of}
 use Rattle.era_meta.specs.Content.{archived_content, content_of, blocks_of_root, root_limit, AreArrayPages, AreBitsPages, IsWholeContent}
-use Rattle.era_meta.specs.Damage.{Test, Passes, PassAll, array_tests, set_tests, archive_tests, page_tests}
+use Rattle.era_meta.specs.Damage.{Passes, PassAll, array_tests, set_tests, archive_tests, page_tests}
 use Rattle.era_meta.specs.Meaning.{pages_in}
 use Rattle.era_meta.proofs.Agree.{all_front, all_back, all_both}
 

@@ -3,7 +3,7 @@ use Rattle.std.proofs.Common.{◌≡◌, ℕ, ◌+◌, ◌<◌, List, [], ◌∷
 use Rattle.std.proofs.lemmas.List.{take_more, map-append}
 use Rattle.era_layout.specs.declared.archive.Archived.{Archived}
 use Rattle.era_model.specs.Marks.{ArchivedSet}
-use Rattle.era_meta.specs.Content.{ArchivedPages, archived_content}
+use Rattle.era_meta.specs.Content.{archived_content}
 use Rattle.era_meta.specs.SaysMarks.{HasSets, SayFlags, SaySets}
 use Rattle.era_meta.proofs.PutSets.{say-push}
 

@@ -1,8 +1,7 @@
 -- What is found in bytes that are no root, and the tests that they pass where they are one.
-use Rattle.std.proofs.Common.{◌≡◌, ◌≢◌, ◌⊎◌, ℕ, false, List, [], ◌∷◌, Option, Some, None, refl, sym, ap, ◌∙◌, subst, inl, inr}
+use Rattle.std.proofs.Common.{◌≡◌, ◌≢◌, ℕ, false, List, ◌∷◌, Option, Some, None, refl, sym, ap, ◌∙◌, subst, inl, inr}
 use Rattle.std.specs.Prelude.{MatchOption, IfSome}
 use Rattle.era_layout.specs.declared.damage.DamageKind.{DamageKind}
-use Rattle.era_layout.specs.declared.damage.DamageKind.TheVariants as kind
 use Rattle.era_layout.specs.declared.damage.RootError.{RootError}
 use Rattle.era_layout.specs.declared.damage.RootError.TheVariants.{Memory}
 use Rattle.era_layout.specs.Damage.{fields_at, HeldPasses, Passes as RootPasses, root_kinds, IsFirstOf}
@@ -12,7 +11,7 @@ use Rattle.era_slots.specs.Opening.{IsOther}
 use Rattle.era_slots.specs.Slot.{SlotIsOpen, body_of}
 use Rattle.era_meta.specs.declared.finding.Finding.{Finding}
 use Rattle.era_meta.specs.declared.finding.Finding.TheVariants as finding
-use Rattle.era_meta.specs.Damage.{Test, SlotRoot, HeldRoot, HeldSize, Passes, PassAll, IsRootDamage, HasSize, held_body}
+use Rattle.era_meta.specs.Damage.{Test, SlotRoot, HeldRoot, Passes, IsRootDamage, held_body}
 use Rattle.era_meta.specs.Meaning.{IsRootBody}
 use Rattle.era_meta.specs.Walks.{IsDamageOrMemory, IsNoFault, IsRootFinding, IsFoundIn}
 

@@ -1,15 +1,14 @@
 -- A disk stands for a meaning exactly where it is undamaged.
-use Rattle.std.proofs.Common.{◌≡◌, ◌≢◌, ◌⊎◌, ℕ, zero, suc, ◌*◌, ◌^◌, ◌<◌, ◌≤◌, Bool, true, false, List, [], ◌∷◌, ◌++◌, length, get_or, Option, Some, None, refl, sym, ap, ◌∙◌, subst, arith, inl, inr}
+use Rattle.std.proofs.Common.{◌≡◌, ◌≢◌, ℕ, zero, suc, ◌*◌, ◌^◌, ◌<◌, ◌≤◌, Bool, true, false, List, [], ◌∷◌, length, Option, Some, None, refl, sym, ap, ◌∙◌, subst, arith, inl, inr}
 use Rattle.std.specs.Prelude.{slice_index, if◌then◌else◌}
 use Rattle.std.proofs.lemmas.Bool.{cases_eq, cases_lt}
-use Rattle.std.specs.List.{AllByRecursion}
 use Rattle.era_base.specs.Geometry.{need_of}
 use Rattle.era_layout.specs.Damage.{fields_at}
 use Rattle.era_layout.specs.Root.{RootFields, root_bytes, IsValidRoot}
 use Rattle.era_slots.specs.Slot.{other, SlotIsOpen, commit_number, body_of, IsCommitNumber, IsBlank, HasBadNumber, IsActive}
 use Rattle.era_meta.specs.Content.{blocks_of_root}
-use Rattle.era_meta.specs.Damage.{Test, SlotRoot, HeldRoot, HeldSize, Passes, PassAll, HaveOneNumber, HasSize, held_body, held_in, held_tests, page_tests, root_tests, root_in, damage_tests}
-use Rattle.era_meta.specs.Meaning.{Meaning, pages_in, IsHeld, IsRootBody, IsWholeRoot, IsImageOf, meaning_of}
+use Rattle.era_meta.specs.Damage.{SlotRoot, HeldRoot, HeldSize, Passes, PassAll, HasSize, held_in, held_tests, page_tests, root_tests, root_in, damage_tests}
+use Rattle.era_meta.specs.Meaning.{Meaning, pages_in, IsHeld, IsRootBody, IsImageOf, meaning_of}
 use Rattle.era_meta.proofs.Agree.{all_front, all_back, all_both}
 use Rattle.era_meta.proofs.PassedTests.{passed-whole, whole-passes}
 use Rattle.era_meta.proofs.Refusals.{hold-pass, number_tests, numbers-hold, bad-not-blank}
@@ -116,12 +115,12 @@ held-tested back seen root (Some held) true is holds =
       ),
     )
 
-root-at : (seen : List ℕ) (slot : ℕ) → slot < 2 → PassAll seen (SlotRoot 0 ∷ SlotRoot 1 ∷ []) → SlotIsOpen slot seen → IsRootBody (body_of slot seen)
+pub root-at : (seen : List ℕ) (slot : ℕ) → slot < 2 → PassAll seen (SlotRoot 0 ∷ SlotRoot 1 ∷ []) → SlotIsOpen slot seen → IsRootBody (body_of slot seen)
 root-at seen zero two pass opened = pass.0 opened
 root-at seen (suc zero) two pass opened = pass.1.0 opened
 root-at seen (suc (suc slot)) two pass opened = absurd (omega arith)
 
-other-two : (slot : ℕ) → other slot < 2
+pub other-two : (slot : ℕ) → other slot < 2
 other-two slot = omega arith
 
 pub undamaged-stands : ReadBack → (seen : List ℕ) → ¬ IsBlank seen → PassAll seen (damage_tests seen)

@@ -1,16 +1,16 @@
 -- Tests of a disk, one behind the other.
-use Rattle.std.proofs.Common.{◌≡◌, ◌⊎◌, ℕ, ◌+◌, true, List, [], ◌∷◌, ◌++◌, Result, Ok, Err, refl, sym, ap, ◌∙◌, subst, arith, inl, inr}
+use Rattle.std.proofs.Common.{◌≡◌, ℕ, ◌+◌, true, List, [], ◌∷◌, ◌++◌, Result, Ok, Err, refl, ap, ◌∙◌, subst, arith, inl, inr}
 use Rattle.std.specs.Prelude.{MatchResult}
 use Rattle.std.specs.List.{AllByRecursion}
 use Rattle.era_base.specs.Calls.{SameDisk}
-use Rattle.era_base.specs.CrashModel.{State, History, Went, clock}
+use Rattle.era_base.specs.CrashModel.{State, History}
 use Rattle.era_base.specs.declared.disk.Disk.{Ghosts}
 use Rattle.era_base.proofs.Moments.{went-none, went-now, went-join}
 use Rattle.era_slots.specs.declared.slots.Slots.{Slots}
 use Rattle.era_slots.specs.Calls.{SameSlots}
 use Rattle.era_meta.specs.declared.finding.Finding.{Finding}
 use Rattle.era_meta.specs.declared.finding.Finding.TheVariants as finding
-use Rattle.era_meta.specs.Damage.{Damage, Test, Passes, Finds, SaysFirst, PassAll, FindsFirst}
+use Rattle.era_meta.specs.Damage.{Test, Passes, Finds, SaysFirst, PassAll}
 use Rattle.era_meta.specs.Walks.{reads_of, all_reads, FaultsAfter, EndsWith, WalkedIn, HasFindingCause, Walked}
 use Rattle.era_meta.proofs.Agree.{all_both}
 
@@ -161,6 +161,16 @@ walked-value disk tests old new one two walked = record {
 pub walked-error : {D T U : Type 0} (disk : Ghosts D) (tests : List Test) (old new : Slots D) (f : Finding) → Walked {T = T} disk tests old new (Err f) → Walked {T = U} disk tests old new (Err f)
 walked-error disk tests old new f walked = record {
   told = λ told. let w = walked.told told in record { went = w.went; calls = w.calls; time = w.time; found = w.found };
+  slots = walked.slots;
+  same = walked.same;
+  cause = walked.cause;
+}
+
+-- want of memory behind tests that passed
+pub walked-forgets : {D T U : Type 0} (disk : Ghosts D) (tests : List Test) (old new : Slots D) (value : T) → Walked disk tests old new (Ok value)
+    → Walked {T = U} disk tests old new (Err finding.Memory)
+walked-forgets disk tests old new value walked = record {
+  told = λ told. let w = walked.told told in record { went = w.went; calls = w.calls; time = w.time; found = tt };
   slots = walked.slots;
   same = walked.same;
   cause = walked.cause;

@@ -1,12 +1,12 @@
--- Page areas: the three places where the pages of a root stand while each commit writes them all, and the numbers that pages get there.
-use Rattle.std.specs.Prelude.{◌≡◌, ℕ, ◌+◌, ◌*◌, ◌<◌, ◌≤◌, ◌⊎◌, List, [], ◌∷◌, length, Option, Some, None}
-use Rattle.std.specs.List.{AllByRecursion}
+-- Where the pages of a root stand while each commit writes them all: three page areas, or single blocks where no area is free; and the numbers that pages get there.
+use Rattle.std.specs.Prelude.{◌≡◌, ℕ, ◌+◌, ◌-◌, ◌*◌, ◌<◌, ◌≤◌, ◌⊎◌, Bool, true, false, List, [], ◌∷◌, length, take, drop, eqb, Option, Some, None, if◌then◌else◌}
+use Rattle.std.specs.List.{AllByRecursion, filter}
 use Rattle.std.specs.Option.{option_map}
-use Rattle.era_base.specs.Geometry.{array_pages_of, bit_pages_of, root_pages_of}
+use Rattle.era_base.specs.Geometry.{array_pages_of, bit_pages_of, need_of, root_pages_of}
 use Rattle.era_base.specs.declared.limits.TheConstants.{MOST_SETS}
 use Rattle.era_layout.specs.declared.archive.Archived.{Archived}
 use Rattle.era_layout.specs.declared.root.Root.{Root}
-use Rattle.era_layout.specs.Root.{RootFields, fields_of, numbers_from, pages_of}
+use Rattle.era_layout.specs.Root.{RootFields, fields_of, numbers_from, pages_of, AreDifferent}
 use Rattle.era_model.specs.Marks.{ArchivedSet}
 use Rattle.era_meta.specs.Content.{blocks_of_root}
 
@@ -53,21 +53,46 @@ held_fields held = option_map fields_of held
 abbrev pub page_count : ℕ → ℕ → ℕ
 page_count blocks sets = array_pages_of blocks + bit_pages_of blocks + sets * bit_pages_of blocks
 
--- The root's pages have the numbers of the least free page area, from its first block on, in the order of the root: those of the era array, of the current set, and of the archived sets, oldest first.
-abbrev pub TakesLeastArea : ℕ → List ℕ → RootFields → Type 0
-TakesLeastArea blocks used root = (area : ℕ) × IsLeastFreeArea blocks used area
-    × (pages_of root ≡ numbers_from (area_start blocks area) (page_count blocks (length root.archive)))
+-- Whether a metadata block is none of those that are in use.
+abbrev pub is_unused : List ℕ → ℕ → Bool
+is_unused [] block = true
+is_unused (other ∷ used) block = if eqb other block then false else is_unused used block
 
--- Archived sets of these eras, of which each has so many pages, numbered one behind the other.
-abbrev pub archived_from : ℕ → ℕ → List ArchivedSet → List Archived
-archived_from first width [] = []
-archived_from first width (set ∷ sets) = record { era = set.era; pages = numbers_from first width } ∷ archived_from (first + width) width sets
+-- The metadata blocks from one up to another that aren't in use, in ascending order.
+abbrev pub free_between : List ℕ → ℕ → ℕ → List ℕ
+free_between used from end = filter (is_unused used) (numbers_from from (end - from))
 
--- The pages of a root are numbered from a first number on, in the order of the root, and its archived sets have these eras.
-pub record IsNumbered (first : ℕ) (sets : List ArchivedSet) (root : RootFields) : Type 0 where
-  pub array : root.array ≡ numbers_from first (array_pages_of (blocks_of_root root))
-  pub current : root.current ≡ numbers_from (first + array_pages_of (blocks_of_root root)) (bit_pages_of (blocks_of_root root))
-  pub archive : root.archive ≡ archived_from (first + array_pages_of (blocks_of_root root) + bit_pages_of (blocks_of_root root)) (bit_pages_of (blocks_of_root root)) sets
+-- The metadata blocks that the pages of the next root may take: those of the least free page area, and where none is free all that aren't in use, behind the held root's block.
+pub record AreNextBlocks (blocks : ℕ) (used next : List ℕ) : Type 0 where
+  pub area : (area : ℕ) → IsLeastFreeArea blocks used area → next ≡ numbers_from (area_start blocks area) (root_pages_of blocks)
+  pub scattered : (¬ HasFreeArea blocks used) → next ≡ free_between used 3 (need_of blocks)
+
+-- Metadata blocks where pages of a next root may stand: they lie where the pages of an image do, none is in use, and none stands twice.
+pub record ArePlaces (blocks : ℕ) (used places : List ℕ) : Type 0 where
+  pub range : AllByRecursion (λ block. (3 ≤ block) × (block < need_of blocks)) places
+  pub unused : AllByRecursion (λ block. is_unused used block ≡ true) places
+  pub different : AreDifferent places
+
+-- The root's pages take the first of these blocks, in ascending order, in the order of the root: those of the era array, of the current set, and of the archived sets, oldest first.
+abbrev pub TakesNextBlocks : ℕ → List ℕ → RootFields → Type 0
+TakesNextBlocks blocks used root = (next : List ℕ) × AreNextBlocks blocks used next
+    × (pages_of root ≡ take (page_count blocks (length root.archive)) next)
+
+-- A root, and its held root, if there is one, have no more pages than a page area has.
+abbrev pub HaveFewPages : ℕ → RootFields → Option RootFields → Type 0
+HaveFewPages blocks root None = length (pages_of root) ≤ root_pages_of blocks
+HaveFewPages blocks root (Some held) = (length (pages_of root) ≤ root_pages_of blocks) × (length (pages_of held) ≤ root_pages_of blocks)
+
+-- Archived sets of these eras, of which each has so many pages: each takes the first of the blocks that are left.
+abbrev pub archived_from : List ℕ → ℕ → List ArchivedSet → List Archived
+archived_from numbers width [] = []
+archived_from numbers width (set ∷ sets) = record { era = set.era; pages = take width numbers } ∷ archived_from (drop width numbers) width sets
+
+-- The pages of a root have the first of these numbers, in the order of the root, and its archived sets have these eras.
+pub record IsNumbered (numbers : List ℕ) (sets : List ArchivedSet) (root : RootFields) : Type 0 where
+  pub array : root.array ≡ take (array_pages_of (blocks_of_root root)) numbers
+  pub current : root.current ≡ take (bit_pages_of (blocks_of_root root)) (drop (array_pages_of (blocks_of_root root)) numbers)
+  pub archive : root.archive ≡ archived_from (drop (bit_pages_of (blocks_of_root root)) (drop (array_pages_of (blocks_of_root root)) numbers)) (bit_pages_of (blocks_of_root root)) sets
 
 -- The lists of a root, and the spare lists beside it, are as long as a geometry's pages, and there are no more of the sets' than those of three roots: the committed one, the next one and the held one.
 pub record HasPageLists (blocks : ℕ) (root : RootFields) (lists : List (List ℕ)) : Type 0 where

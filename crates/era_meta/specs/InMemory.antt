@@ -7,7 +7,7 @@ use Rattle.era_layout.specs.Root.{RootFields, fields_of, IsValidRoot}
 use Rattle.era_model.specs.Marks.{BlockMarks, rolled}
 use Rattle.era_meta.specs.declared.metadata.Meta.{Meta}
 use Rattle.era_meta.specs.declared.snapshot.Snapshot.{Snapshot}
-use Rattle.era_meta.specs.Areas.{HasPageLists, LieInAreas}
+use Rattle.era_meta.specs.Areas.{HasPageLists}
 use Rattle.era_meta.specs.Content.{blocks_of_root}
 use Rattle.era_meta.specs.Held.{snapshot_root, snapshot_marks}
 use Rattle.era_meta.specs.Meaning.{Meaning, IsImageOf}
@@ -26,10 +26,9 @@ pub record IsSnapshotBeside (root : RootFields) (snapshot : Snapshot) : Type 0 w
   pub sectors : snapshot.marks.sectors ≡ root.sectors
   pub block_sectors : snapshot.marks.block_sectors ≡ root.block_sectors
 
--- The parts in memory belong together: the roots are of one geometry, which is that of the marks and of the snapshot's, and lie in page areas; the disk has the blocks that they need; and there are as many lists of pages as three roots may have.
+-- The parts in memory belong together: the roots are of one geometry, which is that of the marks and of the snapshot's; the disk has the blocks that they need; and there are as many lists of pages as three roots may have.
 pub record FitTogether {D : Type 0} (disk : Ghosts D) (meta : Meta D) : Type 0 where
   pub valid : IsValidRoot (fields_of meta.root)
-  pub lie : LieInAreas (fields_of meta.root) (snapshot_root meta.snapshot)
   pub sectors : meta.root.geometry.sectors ≡ meta.marks.sectors
   pub block_sectors : meta.root.geometry.block_sectors ≡ meta.marks.block_sectors
   pub lists : HasPageLists (blocks_of_root (fields_of meta.root)) (fields_of meta.next) meta.spare

@@ -18,10 +18,16 @@ pub mod Usage
 pub mod Digesting
 pub mod AsRuns
 pub mod Damage
-pub mod Trials
 pub mod Walks
+pub mod Trials
 pub mod Reading
+pub mod Parts
+pub mod Openings
+pub mod Starting
 pub mod Status
 pub mod HeldCalls
 pub mod SnapshotCalls
 pub mod Copies
+pub mod FormatCalls
+pub mod Examples
+pub mod Restoring

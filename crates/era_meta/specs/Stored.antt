@@ -52,11 +52,12 @@ pub record TakesNextSlot {D : Type 0} (old new : Slots D) : Type 0 where
   pub number : new.number ≡ old.number + 1
   pub may_be_open : new.may_be_open ≡ nat_lt 0 old.number
 
--- A root is the committed one, it says this meaning, and each crash image stands for that.
+-- A root is the committed one, it says this meaning, each crash image stands for that, and no failed commit left another.
 pub record IsStoredRoot {D : Type 0} (slots : Slots D) (root : RootFields) (held : Option RootFields) (meaning : Meaning) (now : State) : Type 0 where
   pub keeps : KeepsFor slots root held now
   pub says : stored_in now root held ≡ meaning
   pub images : Leaves (IsImageOf meaning) now
+  pub alone : slots.may_be_open ≡ true → (left : Meaning) → ¬ IsLeft slots.target slots.number left now
 
 -- A root is still the committed one, it says what it said, and what a failed commit left is what was to be stored.
 pub record IsStillStored {D : Type 0} (slots : Slots D) (root : RootFields) (held : Option RootFields) (old new : Meaning) (now : State) : Type 0 where

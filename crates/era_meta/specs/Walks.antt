@@ -1,5 +1,5 @@
 -- What the functions did that read a disk and test what they read, over the slots. A definition takes the members of the disk's trait, as `D.Disk`.
-use Rattle.std.specs.Prelude.{◌≡◌, ℕ, ◌+◌, ◌<◌, ◌⊎◌, true, List, [], ◌∷◌, Result, Ok, Err, MatchResult, MatchOption}
+use Rattle.std.specs.Prelude.{◌≡◌, ℕ, ◌+◌, ◌<◌, ◌⊎◌, true, List, [], ◌∷◌, Result, MatchResult, MatchOption}
 use Rattle.era_base.specs.Calls.{SameDisk}
 use Rattle.era_base.specs.CrashModel.{History, Went, clock}
 use Rattle.era_base.specs.declared.disk.Disk.{Ghosts}

@@ -1,7 +1,7 @@
-//! Page areas: where the pages of the next root go while each commit writes them all. Three areas of as many metadata
-//! blocks as one root may reach follow the two slots and the held root's block.
+//! Where the pages of the next root go while each commit writes them all. Three page areas of as many metadata blocks as
+//! one root may reach follow the two slots and the held root's block.
 
-ghost use Rattle.std.specs.Prelude.{◌≡◌, ◌↔◌, ◌+◌, ◌*◌, ◌<◌, ◌≤◌, ◌^◌, ℕ, List, [], ◌++◌, length, drop, map, All, IsTrue, Option, option_copied};
+ghost use Rattle.std.specs.Prelude.{◌≡◌, ◌↔◌, ◌+◌, ◌*◌, ◌<◌, ◌≤◌, ◌^◌, ℕ, List, [], ◌++◌, length, drop, map, All, IsTrue, MatchOption, Option, option_copied};
 ghost use Rattle.std.specs.List.{AllByRecursion};
 ghost use Rattle.era_base.specs.CrashModel.{State};
 ghost use Rattle.era_base.specs.Geometry.{blocks_of, root_pages_of};
@@ -9,16 +9,17 @@ ghost use Rattle.era_base.specs.declared.limits.TheConstants.{MOST_SETS};
 ghost use Rattle.era_layout.specs.Root.{fields_of, pages_of, IsValidRoot};
 ghost use Rattle.era_model.specs.Marks.{BlockMarks};
 ghost use Rattle.era_model.specs.Validity.{AreValidMarks};
-ghost use Rattle.era_meta.specs.Areas.{archived_from, held_fields, IsOutside, IsLeastFreeArea, HasFreeArea, IsNumbered, HasPageLists};
+ghost use Rattle.era_meta.specs.Areas.{archived_from, held_fields, IsOutside, IsLeastFreeArea, HasFreeArea, IsNumbered, HasPageLists, HaveFewPages};
 ghost use Rattle.era_meta.specs.Content.{blocks_of_root};
 ghost use Rattle.era_meta.specs.Keeping.{HasRoom};
 ghost use Rattle.era_meta.specs.Meaning.{reached};
 ghost use Rattle.era_meta.specs.Placing.{IsPlaced};
 ghost use Rattle.era_meta.specs.SaysMarks.{IsRootFor};
 
+use crate::free_blocks::{FreeBlocks, number_list};
 use crate::live_set::LiveSet;
 use era_base::{Geometry, MOST_SETS, ReservedList};
-use era_layout::{ArchiveList, Archived, PageList, Root, renumber};
+use era_layout::{ArchiveList, Archived, PageList, Root};
 
 /// Lists of pages for sets: as many as the committed root, the next one and the held one have.
 const LISTS: usize = 3 * MOST_SETS as usize;
@@ -64,7 +65,7 @@ fn is_outside(root: &Root, first: u32, count: u32) -> bool
 }
 
 /// Whether a page area of `count` blocks from `first` on is free: no page of either root lies in it.
-fn is_free(root: &Root, held: Option<&Root>, first: u32, count: u32) -> bool
+pub(crate) fn is_free(root: &Root, held: Option<&Root>, first: u32, count: u32) -> bool
     requires behind { 3 ≤ first }
     requires end { first + count < 2 ^ 32 }
     ensures { IsTrue result ↔ AllByRecursion (IsOutside first count)
@@ -80,7 +81,7 @@ fn is_free(root: &Root, held: Option<&Root>, first: u32, count: u32) -> bool
 }
 
 /// How many blocks a page area has, 98 at most.
-fn area_size(geometry: &Geometry) -> u32
+pub(crate) fn area_size(geometry: &Geometry) -> u32
     ensures value { result
         ≡ root_pages_of (blocks_of geometry.now.sectors geometry.now.block_sectors) }
     ensures most { result ≤ 98 }
@@ -89,20 +90,21 @@ fn area_size(geometry: &Geometry) -> u32
     geometry.root_pages()
 }
 
-/// The least page area, counted from 0, in which no page of either root lies.
-fn free_area(root: &Root, held: Option<&Root>) -> u32
-    requires { HasFreeArea (blocks_of_root (fields_of root.now))
-        (reached (fields_of root.now) (held_fields (option_copied held))) }
-    ensures { IsLeastFreeArea (blocks_of_root (fields_of root.now))
-        (reached (fields_of root.now) (held_fields (option_copied held.entry))) result }
+/// The least page area, counted from 0, in which no page of either root lies, if there is one.
+pub(crate) fn free_area(root: &Root, held: Option<&Root>) -> Option<u32>
+    ensures { MatchOption result
+        (¬ HasFreeArea (blocks_of_root (fields_of root.now))
+        (reached (fields_of root.now) (held_fields (option_copied held.entry))))
+        (IsLeastFreeArea (blocks_of_root (fields_of root.now))
+        (reached (fields_of root.now) (held_fields (option_copied held.entry)))) }
 {
     let size = area_size(&root.geometry);
-    for area in 0..2 {
+    for area in 0..3 {
         if is_free(root, held, 3 + area * size, size) {
-            return area;
+            return Some(area);
         }
     }
-    2
+    None
 }
 
 /// Puts the lists of pages of all archived sets behind the spare ones, and leaves no set. It takes no memory.
@@ -117,60 +119,58 @@ pub(crate) fn release_lists(archive: &mut ArchiveList, spare: &mut SpareLists)
     }
 }
 
-/// Archives sets of these eras, where none is archived. Each takes the first spare list, and its `width` pages have the
-/// numbers behind those of the set before, from `first` on. It takes no memory.
+/// Archives sets of these eras, where none is archived. Each takes the first spare list, and its `width` pages take the
+/// first free blocks that are left. It takes no memory.
 fn archive_sets(
     archive: &mut ArchiveList,
     spare: &mut SpareLists,
     sets: &[LiveSet],
-    first: u32,
+    free: &mut FreeBlocks,
     width: u32,
 )
     requires none { archive.old ≡ [] }
     requires lists { AllByRecursion (λ pages. length pages ≡ width) spare.old }
     requires enough { length sets.now ≤ length spare.old }
     requires count { length sets.now ≤ MOST_SETS }
-    requires numbers { first + length sets.now * width < 2 ^ 32 }
-    ensures archive { archive.new ≡ archived_from first width sets.now }
+    requires blocks { length sets.now * width ≤ length free.old }
+    ensures archive { archive.new ≡ archived_from free.old width sets.now }
     ensures spare { spare.new ≡ drop (length sets.now) spare.old }
 {
-    let mut number = first;
     for set in sets {
         let mut pages = spare.take_first();
-        renumber(&mut pages, number);
+        number_list(&mut pages, free);
         archive.push_reserved(Archived {
             era: set.era(),
             pages,
         });
-        number += width;
     }
 }
 
-/// Numbers the pages of a root from `first` on: those of the era array, of the current set, and of archived sets of
-/// these eras. It takes no memory.
-fn number_pages(next: &mut Root, spare: &mut SpareLists, first: u32, sets: &[LiveSet])
+/// Numbers the pages of a root by free blocks: those of the era array, of the current set, and of archived sets of these
+/// eras. It takes no memory.
+fn number_pages(next: &mut Root, spare: &mut SpareLists, free: &mut FreeBlocks, sets: &[LiveSet])
     requires lists { HasPageLists (blocks_of_root (fields_of next.old)) (fields_of next.old)
         spare.old }
     requires enough { length sets.now ≤ length next.old.archive + length spare.old }
     requires count { length sets.now ≤ MOST_SETS }
-    requires end { first + root_pages_of (blocks_of_root (fields_of next.old)) < 2 ^ 32 }
-    ensures numbered { IsNumbered first sets.now (fields_of next.new) }
+    requires blocks { root_pages_of (blocks_of_root (fields_of next.old)) ≤ length free.old }
+    ensures numbered { IsNumbered free.old sets.now (fields_of next.new) }
     ensures spare { spare.new ≡ drop (length sets.now)
         (spare.old ++ map (λ set. set.pages) next.old.archive) }
     ensures same { (next.new.geometry ≡ next.old.geometry) × (next.new.era ≡ next.old.era)
         × (next.new.held ≡ next.old.held) }
 {
-    let array = next.geometry.array_pages();
     let width = next.geometry.bit_pages();
-    renumber(&mut next.array, first);
-    renumber(&mut next.current, first + array);
+    number_list(&mut next.array, free);
+    number_list(&mut next.current, free);
     release_lists(&mut next.archive, spare);
-    archive_sets(&mut next.archive, spare, sets, first + array + width, width);
+    archive_sets(&mut next.archive, spare, sets, free, width);
 }
 
 /// Makes `next` the root of marks of an era with these archived sets, over the geometry of the committed root and with
-/// its snapshot. Its pages take the least page area in which no page of the committed and of the held root lies, in the
-/// order of the root. Lists of pages come from `next` and the spare ones; it takes no memory.
+/// its snapshot. Its pages take the least page area in which no page of the committed and of the held root lies, and
+/// where there is none the least metadata blocks that neither uses, in the order of the root. Lists of pages come from
+/// `next` and the spare ones; it takes no memory.
 pub fn prepare(
     next: &mut Root,
     spare: &mut SpareLists,
@@ -179,8 +179,8 @@ pub fn prepare(
     era: u32,
     sets: &[LiveSet],
 )
-    requires free { HasFreeArea (blocks_of_root (fields_of root.now))
-        (reached (fields_of root.now) (held_fields (option_copied held))) }
+    requires few { HaveFewPages (blocks_of_root (fields_of root.now)) (fields_of root.now)
+        (held_fields (option_copied held)) }
     requires lists { HasPageLists (blocks_of_root (fields_of root.now)) (fields_of next.old)
         spare.old }
     requires sets { (length sets.now ≤ length next.old.archive + length spare.old)
@@ -199,10 +199,9 @@ pub fn prepare(
         ≡ length next.old.archive + length spare.old) }
 {
     let _sectors = root.geometry.sectors();
-    let area = free_area(root, held);
-    let first = 3 + area * area_size(&root.geometry);
+    let mut free = FreeBlocks::beside(root, held);
     next.geometry = root.geometry;
     next.era = era;
     next.held = root.held;
-    number_pages(next, spare, first, sets);
+    number_pages(next, spare, &mut free, sets);
 }

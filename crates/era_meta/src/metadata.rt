@@ -9,7 +9,6 @@ ghost use Rattle.era_model.specs.Marks.{blocks_of_marks, rolled, with_block};
 use crate::areas::{SpareLists, prepare};
 use crate::laws::kept_disk_leaves_its_meanings;
 use crate::live_marks::LiveMarks;
-use crate::page_laws::two_roots_leave_an_area;
 use crate::snapshot::Snapshot;
 use crate::stores::store_marks;
 use era_base::Disk;
@@ -53,7 +52,6 @@ impl<D: Disk> Meta<D> {
         ensures cause { HasCount (D.faults self.old.slots.disk) (D.faults self.new.slots.disk)
             result }
     {
-        two_roots_leave_an_area();
         self.marks.are_valid();
         let held = self.snapshot.held_root();
         let era = self.marks.era();

@@ -1,7 +1,12 @@
 //! Why a metadata disk isn't opened.
 
+ghost use Rattle.std.specs.Prelude.{◌≡◌};
+ghost use Rattle.era_meta.specs.Trials.{error_of_finding, error_of_slots};
+
+use crate::finding::Finding;
 use era_base::Geometry;
 use era_layout::DamageKind;
+use era_slots::SlotError;
 
 /// Why a metadata disk isn't opened. A metadata block has 4,096 bytes.
 #[derive(Clone, Copy, Debug, PartialEq, Eq)]
@@ -29,4 +34,35 @@ pub enum MetaError {
 pub struct MetaRefusal<D> {
     pub error: MetaError,
     pub disk: D,
+}
+
+impl MetaError {
+    /// The refusal for what was found in a reading.
+    pub(crate) fn of_finding(finding: Finding) -> MetaError
+        ensures { result ≡ error_of_finding finding }
+    {
+        match finding {
+            Finding::Fault(count) => MetaError::Fault(count),
+            Finding::Damage { kind, block } => MetaError::Damaged { kind, block },
+            Finding::Memory => MetaError::Memory,
+        }
+    }
+
+    /// The refusal where the slots weren't opened.
+    pub(crate) fn of_slots(error: SlotError) -> MetaError
+        ensures { result ≡ error_of_slots error }
+    {
+        match error {
+            SlotError::Fault(count) => MetaError::Fault(count),
+            SlotError::BadSequence(slot) => MetaError::Damaged {
+                kind: DamageKind::BadSequence,
+                block: slot,
+            },
+            SlotError::SequenceTie => MetaError::Damaged {
+                kind: DamageKind::SequenceTie,
+                block: 1,
+            },
+            SlotError::Memory => MetaError::Memory,
+        }
+    }
 }

@@ -129,7 +129,7 @@ pub fn decode_roots(
 }
 
 /// Whether two geometries are one.
-fn same_size(one: &Geometry, other: &Geometry) -> bool
+pub(crate) fn same_size(one: &Geometry, other: &Geometry) -> bool
     ensures { IsTrue result ↔ ((one.now.sectors ≡ other.now.sectors)
         × (one.now.block_sectors ≡ other.now.block_sectors)) }
 {

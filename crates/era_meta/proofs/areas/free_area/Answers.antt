@@ -6,7 +6,6 @@ use Rattle.era_layout.specs.Root.{fields_of}
 use Rattle.era_meta.specs.Areas.{IsOutside, IsFreeArea, held_fields}
 use Rattle.era_meta.specs.Content.{blocks_of_root}
 use Rattle.era_meta.specs.Meaning.{reached}
-use Rattle.era_meta.proofs.AreasFree.{last-area}
 use Rattle.era_meta.proofs.areas.free_area.Goals as goal
 
 never : IsTrue false → ⊥
@@ -26,6 +25,4 @@ loop-area-preserved c = λ other lt free.
     ]
 
 pub returns : goal.returns
-returns c =
-    last-area (blocks_of_root (fields_of c.args.root.now)) (reached (fields_of c.args.root.now) (held_fields (option_copied c.args.held))) c.requires
-    (λ other lt. c.loop-area.invariant other (omega arith))
+returns c = λ has. c.loop-area.invariant has.0 (let three = has.1 in omega (arith, three)) has.2

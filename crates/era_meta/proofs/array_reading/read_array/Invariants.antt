@@ -1,5 +1,4 @@
 use Rattle.std.proofs.Common.{◌≡◌, ℕ, ◌<◌, ◌≤◌, true, length, drop, get_or}
-use Rattle.era_base.specs.CrashModel.{State}
 use Rattle.era_base.specs.Calls.{SameDisk}
 use Rattle.era_slots.specs.Slot.{page_of}
 use Rattle.era_meta.specs.Damage.{array_tests}

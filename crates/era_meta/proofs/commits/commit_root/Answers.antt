@@ -8,7 +8,7 @@ use Rattle.era_slots.specs.Standing.{Stands}
 use Rattle.era_slots.specs.Promise.{Commits, IsStored, IsFailed}
 use Rattle.era_meta.specs.Meaning.{Meaning, IsImageOf}
 use Rattle.era_meta.specs.Keeping.{stored_in, Keeps, IsLeft, LeavesEither}
-use Rattle.era_meta.proofs.Committed.{commits-leave, commits-says, next-says, stored-keeps, stored-leave, failed-keeps, failed-left}
+use Rattle.era_meta.proofs.Committed.{commits-leave, commits-says, next-says, stored-alone, stored-keeps, stored-leave, failed-keeps, failed-left}
 use Rattle.era_meta.proofs.Ends.{ok_map, err_map, at-fields}
 use Rattle.era_meta.proofs.commits.commit_root.Goals as goal
 
@@ -48,6 +48,9 @@ returns-clause-ok g c = ok_map c.commit.result (λ stored. (
             (next-says target number root next held held_next old.now new.now may commits)
             (stored-leave c.page_on_the_disk_is_left.ensures c.standing_slots_leave_one_of_two_bodies.ensures c.open_slot_is_left_as_it_reads.ensures
             target number root next held held_next old.now new.now may commits is stands image left);
+        alone = λ opened left was. stored-alone target number (root_bytes next) new.now left may.keeps.formatted is
+            (at-fields (λ t n f. IsLeft t n left new.now) c.commit.new.self.target (other target) c.commit.new.self.number (number + 1) c.commit.new.self.may_be_open true
+            (sym stored.target) (sym stored.number) (sym flag) was);
       }),
   record { target = stored.target; number = stored.number; may_be_open = stored.may_be_open },
   stored.calls,

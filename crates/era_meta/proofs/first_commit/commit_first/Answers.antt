@@ -1,4 +1,5 @@
 use Rattle.std.proofs.Common.{◌≡◌, ℕ, ◌+◌, false, List, None, nat_lt, ap, sym, ◌∙◌, subst}
+use Rattle.std.proofs.lemmas.Bool.{false≢true}
 use Rattle.era_base.specs.CrashModel.{Went}
 use Rattle.era_base.proofs.Moments.{went-now, went-wider}
 use Rattle.era_layout.specs.Root.{fields_of, root_bytes}
@@ -55,5 +56,6 @@ returns-clause-ok g c = ok_map c.commit.result (λ stored.
             says = first-says next old.now new.now may commits;
             images = first-leave c.page_on_the_disk_is_left.ensures c.standing_slots_leave_one_of_two_bodies.ensures
                 c.open_slot_is_left_as_it_reads.ensures next old.now new.now may commits keeps;
+            alone = λ opened left was. false≢true (sym flag ∙ opened);
           },
     )) c.commit.ensures.stored

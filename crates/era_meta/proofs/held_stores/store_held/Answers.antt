@@ -65,6 +65,7 @@ returns-in-Ok-clause-ok g c =
             keeps = stored.keeps;
             says = stored.says ∙ prepared.next_says;
             images = λ image is. subst (λ (meaning : Meaning). IsImageOf meaning image) prepared.next_says (stored.images image is);
+            alone = stored.alone;
           }),
       record {
         target = committed.1.target ∙ ap other c.prepare_held.ensures.keeps.1.target;

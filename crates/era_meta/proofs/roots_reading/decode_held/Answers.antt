@@ -1,8 +1,8 @@
-use Rattle.std.proofs.Common.{◌≡◌, List, [], ◌∷◌, refl, sym, ◌∙◌, subst, inl, inr}
+use Rattle.std.proofs.Common.{[], ◌∷◌, refl, sym, ◌∙◌, subst, inl, inr}
 use Rattle.std.proofs.lemmas.Bool.{false≢true}
 use Rattle.era_layout.specs.Damage.{HeldPasses}
 use Rattle.era_layout.specs.Root.{RootFields, fields_of}
-use Rattle.era_meta.specs.Damage.{HeldRoot, HeldSize, HasSize}
+use Rattle.era_meta.specs.Damage.{HeldSize, HasSize}
 use Rattle.era_meta.proofs.RootFindings.{root-found, held-found, held-passes, held-says}
 use Rattle.era_meta.proofs.roots_reading.decode_held.Goals as goal
 

@@ -1,4 +1,4 @@
-use Rattle.std.proofs.Common.{◌≡◌, List, [], ◌∷◌, drop, refl, sym, ap, ◌∙◌}
+use Rattle.std.proofs.Common.{◌≡◌, [], ◌∷◌, drop, refl, sym, ap, ◌∙◌}
 use Rattle.era_base.specs.CrashModel.{State}
 use Rattle.era_base.proofs.Moments.{went-now}
 use Rattle.era_meta.specs.Damage.{HeldRoot, HeldSize, held_body}

@@ -1,15 +1,14 @@
-use Rattle.std.proofs.Common.{◌≡◌, ℕ, ◌+◌, List, [], ◌∷◌, ◌++◌, length, map, take, drop, Ok, Err, sym, ap, ◌∙◌, subst, arith}
+use Rattle.std.proofs.Common.{◌≡◌, ℕ, ◌+◌, List, [], ◌∷◌, ◌++◌, length, map, take, drop, sym, ap, ◌∙◌, subst, arith}
 use Rattle.std.proofs.lemmas.List.{length-append}
 use Rattle.std.specs.List.{AllByRecursion}
 use Rattle.era_base.specs.CrashModel.{State}
 use Rattle.era_base.proofs.Moments.{went-now}
 use Rattle.era_model.specs.Marks.{ArchivedSet}
-use Rattle.era_meta.specs.Damage.{Test, set_tests, archive_tests}
+use Rattle.era_meta.specs.Damage.{set_tests, archive_tests}
 use Rattle.era_meta.specs.Meaning.{pages_in}
 use Rattle.era_meta.specs.SaysMarks.{SayFlags, SaySets, HasSets}
 use Rattle.era_meta.specs.Content.{archived_content}
 use Rattle.era_meta.specs.Stored.{CanHold}
-use Rattle.era_meta.specs.Walks.{Walked}
 use Rattle.era_meta.proofs.Agree.{all_both}
 use Rattle.era_meta.proofs.Loops.{leads-on, leads-out, leads-end, archive-more, archive-past}
 use Rattle.era_meta.proofs.PutSets.{set-holds}

@@ -1,6 +1,5 @@
-use Rattle.std.proofs.Common.{◌≡◌, ℕ, ◌≤◌, true, List, length, map, take, drop}
+use Rattle.std.proofs.Common.{◌≡◌, true, List, length, map, take, drop}
 use Rattle.std.specs.List.{AllByRecursion}
-use Rattle.std.specs.Prelude.{Result}
 use Rattle.era_base.specs.Calls.{SameDisk}
 use Rattle.era_model.specs.Marks.{ArchivedSet}
 use Rattle.era_meta.specs.Content.{archived_content}

@@ -1,4 +1,4 @@
-use Rattle.std.proofs.Common.{◌≡◌, ℕ, ◌-◌, ◌*◌, ◌+◌, ◌<◌, min, Bool, List, [], ◌∷◌, length, Ok, Err, refl, sym, ap, ◌∙◌, subst}
+use Rattle.std.proofs.Common.{◌≡◌, ℕ, ◌-◌, ◌*◌, ◌+◌, ◌<◌, min, List, [], ◌∷◌, length, Ok, Err, refl, sym, ap, ◌∙◌, subst}
 use Rattle.era_base.specs.CrashModel.{State}
 use Rattle.era_base.proofs.Moments.{went-now}
 use Rattle.era_layout.specs.Pages.{FlagsEndAt}

@@ -1,8 +1,8 @@
-use Rattle.std.proofs.Common.{◌≡◌, ℕ, ◌-◌, ◌*◌, ◌+◌, ◌<◌, ◌≤◌, true, min, List, [], ◌∷◌, length, get_or, drop, Ok, Err, refl, sym, ap, ◌∙◌, subst, arith, below_more}
+use Rattle.std.proofs.Common.{◌≡◌, ℕ, ◌-◌, ◌*◌, ◌+◌, ◌≤◌, min, [], ◌∷◌, length, get_or, drop, Ok, Err, refl, sym, ◌∙◌, subst, arith, below_more}
 use Rattle.era_base.specs.CrashModel.{State}
 use Rattle.era_base.proofs.Moments.{went-now}
 use Rattle.era_slots.specs.Slot.{page_of}
-use Rattle.era_meta.specs.Damage.{Test, BitsPage, set_tests}
+use Rattle.era_meta.specs.Damage.{BitsPage, set_tests}
 use Rattle.era_meta.specs.PageParts.{IsBitsPageOf}
 use Rattle.era_meta.specs.Stored.{CanHold}
 use Rattle.era_meta.specs.Walks.{Walked}

@@ -57,6 +57,7 @@ returns-clause-ok g c = ok_map c.commit_root.result (λ committed. (
         keeps = stored.keeps;
         says = stored.says ∙ prepared.next_says;
         images = λ image is. subst (λ (meaning : Meaning). IsImageOf meaning image) prepared.next_says (stored.images image is);
+        alone = stored.alone;
       }),
   record {
     target = committed.1.target ∙ ap other c.put_marks.ensures.keeps.1.target;

@@ -7,16 +7,13 @@ use Rattle.era_model.specs.Marks.{blocks_of_marks}
 use Rattle.era_meta.specs.Areas.{page_count, HasPageLists}
 use Rattle.era_meta.specs.Content.{blocks_of_root}
 use Rattle.era_meta.specs.Held.{snapshot_root}
-use Rattle.era_meta.specs.Meaning.{reached}
 use Rattle.era_meta.specs.Placing.{IsPlaced}
 use Rattle.era_meta.proofs.Ends.{on_err}
-use Rattle.era_meta.proofs.MetaKept.{beside-next, pages-count}
+use Rattle.era_meta.proofs.MetaKept.{beside-next, few-pages, pages-count}
 use Rattle.era_meta.proofs.metadata.Meta.store_live.Goals as goal
 
-pub prepare-requires-clause-free : goal.prepare-requires-clause-free
-prepare-requires-clause-free g c =
-    rw c.held_root-held.ensures
-    (c.two_roots_leave_an_area.ensures (fields_of c.args.self.now.root) (snapshot_root c.args.self.now.snapshot) c.requires.can.fit.lie)
+pub prepare-requires-clause-few : goal.prepare-requires-clause-few
+prepare-requires-clause-few g c = rw c.held_root-held.ensures (few-pages g.D.Disk c.args.self.now c.requires.can.fit)
 
 pub prepare-requires-clause-sets : goal.prepare-requires-clause-sets
 prepare-requires-clause-sets g c =
@@ -63,7 +60,6 @@ returns-clause-fit g c =
     rw (c.swap.ensures.x_after, c.swap.ensures.y_after)
     (record {
       valid = c.prepare.ensures.valid m c.are_valid.ensures for;
-      lie = placed.areas fit.lie;
       sectors = for.sectors;
       block_sectors = for.block_sectors;
       lists = subst (λ (n : ℕ). HasPageLists n root c.prepare.new.spare) (sym blocks) (record {
@@ -90,7 +86,7 @@ returns-clause-ok g c =
     let blocks : blocks_of_root root ≡ blocks_of_marks m
     = ap (λ (n : ℕ). blocks_of n root.block_sectors) fit.sectors ∙ ap (λ (n : ℕ). blocks_of m.sectors n) fit.block_sectors in
     let pages : length (pages_of next) ≡ page_count (blocks_of_marks m) (length m.archive)
-    = pages-count (blocks_of_root root) (reached root (snapshot_root c.args.self.now.snapshot)) next m blocks placed.area for in
+    = pages-count (blocks_of_root root) next m blocks placed.count for in
     let done = c.in_ok-store_marks.ensures.ok in
     rw c.swap.ensures.x_after
     (record {
