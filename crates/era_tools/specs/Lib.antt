@@ -1,0 +1,9 @@
+pub mod ToolLines
+pub mod Printing
+pub mod Refusals
+pub mod Needs
+pub mod DumpTool
+pub mod ListTool
+pub mod Around
+pub mod ClosedImages
+pub mod CheckTool
