@@ -17,8 +17,8 @@ use Rattle.era_stripe.specs.declared.cut_write.CutWrite.{CutWrite}
 use Rattle.era_stripe.specs.declared.stripe.Stripe.{Stripe}
 use Rattle.era_notes.specs.declared.buffers.Buffers.{Buffers}
 use Rattle.era_stripe.specs.Calls.{MayCall, SameRest, SameStripe}
-use Rattle.era_stripe.specs.Stripes.{StripeFits, CutFits, IsCutWrite, SameStay, part_of}
-use Rattle.era_stripe.specs.Results.{HadNone, Resolved, SettleDid, Unresolved}
+use Rattle.era_stripe.specs.Stripes.{StripeFits, CutFits, IsCutWrite, part_of}
+use Rattle.era_stripe.specs.Results.{HadNone, Resolved, SameStay, SettleDid, Unresolved}
 
 -- a relation of disks, over equal ones
 pub over-equal : {D : Type 0} (Relates : D → D → Type 0) (old one two new : D) → one ≡ old → new ≡ two → Relates one two → Relates old new

@@ -1,11 +1,9 @@
 -- What the calls of a stripe ask, and what they did: entries, receipts and device calls.
-use Rattle.std.specs.Prelude.{◌≡◌, ℕ, ◌+◌, ◌<◌, ◌≤◌, true, false, Bool, List, [], ◌∷◌, ◌++◌, length, map, None, Result}
-use Rattle.era_base.specs.CrashModel.{History, Stepped, Synced}
-use Rattle.era_base.specs.Disk.{Reads}
+use Rattle.std.specs.Prelude.{◌≡◌, ℕ, ◌+◌, ◌<◌, ◌≤◌, true, false, Bool, List, [], ◌∷◌, ◌++◌, length, map, None}
 use Rattle.era_base.specs.Faults.{Rose}
 use Rattle.era_base.specs.declared.disk.Disk.{Ghosts}
 use Rattle.era_base.specs.declared.ids.CmdId.{CmdId}
-use Rattle.era_gate.specs.Calls.{GateToken, PassToken, has_lane, has_gone, has_seen, pass_draws, StripeAsks, PassAsks}
+use Rattle.era_gate.specs.Calls.{GateToken, KeeperToken, PassToken, has_lane, has_gone, has_mark, has_seen, pass_draws, StripeAsks, PassAsks}
 use Rattle.era_gate.specs.Passes.{KeepsPass, KnowsEnded, no_write}
 use Rattle.era_gate.specs.Places.{AscendFrom, IsNextPlace}
 use Rattle.era_gate.specs.StateAfter.{entry}
@@ -109,11 +107,10 @@ pub record IsNewCount {D : Type 0} (disk : Ghosts D) (stripe : Stripe D) (count 
   pub present : count ≡ disk.faults stripe.disk
   pub rose : Rose (last_faults (least_of disk stripe.notes) (notes_of disk stripe.notes)) count
 
--- A stripe may draw that its part failed, with this count of faults.
-pub record MayDrawFault {D : Type 0} (disk : Ghosts D) (gate : GateToken) (stripe : Stripe D) (pass : PassToken) (id : CmdId) (count : ℕ) : Type 0 where
+-- A stripe may draw that its part failed.
+pub record MayDrawFault {D : Type 0} (disk : Ghosts D) (gate : GateToken) (stripe : Stripe D) (pass : PassToken) (id : CmdId) : Type 0 where
   pub fits : StripeFits disk stripe
   pub call : MayCall gate stripe pass id 1
-  pub new : IsNewCount disk stripe count
 
 -- A stripe may enter.
 pub record MayEnter {D : Type 0} (disk : Ghosts D) (gate : GateToken) (stripe : Stripe D) (pass : PassToken) (id : CmdId) : Type 0 where
@@ -129,6 +126,14 @@ pub record MayLeave {D : Type 0} (disk : Ghosts D) (gate : GateToken) (stripe : 
   pub inside : stripe.seat.part.state.inside ≡ true
   pub uncut : stripe.cut ≡ None
 
+-- A stripe may be shown a mark: it is inside, and the keeper marked the block in the present era.
+pub record MayBeShown {D : Type 0} (disk : Ghosts D) (gate : GateToken) (stripe : Stripe D) (keeper : KeeperToken) (block : ℕ) : Type 0 where
+  pub fits : StripeFits disk stripe
+  pub table : stripe.seat.table ≡ gate.table
+  pub keeper_table : keeper.table ≡ gate.table
+  pub inside : stripe.seat.part.state.inside ≡ true
+  pub marked : has_mark block keeper.part.state.era keeper.part.state.entries ≡ true
+
 -- Entering, looking and leaving change nothing of a stripe but its seat and its era.
 pub record SameButStay {D : Type 0} (old new : Stripe D) : Type 0 where
   pub disk : new.disk ≡ old.disk
@@ -140,10 +145,3 @@ pub record SameButStay {D : Type 0} (old new : Stripe D) : Type 0 where
   pub entries : new.entries ≡ old.entries
   pub notes : new.notes ≡ old.notes
   pub room : new.room ≡ old.room
-
--- A sync that answered Ok, and behind it a read with this result, are the only calls.
-pub record SyncedAndRead {T E : Type 0} (first : ℕ) (buffer : List ℕ) (result : Result T E) (old new : History) : Type 0 where
-  pub between : History
-  pub time : Stepped old between
-  pub synced : Synced old.now between.now
-  pub read : Reads first buffer result between new

@@ -1,7 +1,7 @@
 -- What each call of a stripe came to, by its result.
 use Rattle.std.specs.Prelude.{◌≡◌, ◌⊎◌, ℕ, ◌/◌, ◌%◌, true, false, Bool, List, [], ◌∷◌, length, vec_len, Option, Some, None, Result, Ok, Err}
-use Rattle.era_base.specs.CrashModel.{History}
-use Rattle.era_base.specs.Disk.{Syncs}
+use Rattle.era_base.specs.CrashModel.{History, Stepped, Synced}
+use Rattle.era_base.specs.Disk.{Reads, Syncs}
 use Rattle.era_base.specs.declared.disk.Disk.{Ghosts}
 use Rattle.era_base.specs.declared.ids.CmdId.{CmdId}
 use Rattle.era_gate.specs.Calls.{GateToken, PassToken}
@@ -14,7 +14,7 @@ use Rattle.era_model.specs.Events.{same_id}
 use Rattle.era_model.specs.declared.opening.Opening.{Opening}
 use Rattle.era_stripe.specs.declared.cut_write.CutWrite.{CutWrite}
 use Rattle.era_stripe.specs.declared.stripe.Stripe.{Stripe}
-use Rattle.era_stripe.specs.Calls.{Drew, IsNewCount, MayCall, MayHold, MayIssue, SyncedAndRead}
+use Rattle.era_stripe.specs.Calls.{Drew, IsNewCount, MayCall, MayHold, MayIssue}
 use Rattle.era_notes.specs.Parts.{sector_in}
 use Rattle.era_stripe.specs.Stripes.{StripeFits, StripeStands, IsAtRest, part_of}
 
@@ -56,6 +56,13 @@ pub record MaySettleBy {D : Type 0} (disk : Ghosts D) (gate : GateToken) (stripe
   pub fits : StripeFits disk stripe
   pub rest : IsAtRest stripe
   pub call : MayCall gate stripe pass by 1
+
+-- A sync that answered Ok, and behind it a read with this result, are the only calls.
+pub record SyncedAndRead {T E : Type 0} (first : ℕ) (buffer : List ℕ) (result : Result T E) (old new : History) : Type 0 where
+  pub between : History
+  pub time : Stepped old between
+  pub synced : Synced old.now between.now
+  pub read : Reads first buffer result between new
 
 -- A sync, and a read exactly where it answered Ok, are the only calls: at Ok both answered so, otherwise the last one failed.
 abbrev pub SyncsAndReads : ℕ → List ℕ → Result Unit ℕ → History → History → Type 0
@@ -99,6 +106,15 @@ SettleDid disk None by (Ok value) old new pass pass' = HadNone old new pass pass
 SettleDid disk None by (Err count) old new pass pass' = ⊥
 SettleDid disk (Some cut) by (Ok value) old new pass pass' = Resolved disk cut by old new pass pass'
 SettleDid disk (Some cut) by (Err count) old new pass pass' = Unresolved disk cut count old new pass pass'
+
+-- Calls that change nothing of a stripe's stay in the gate, and nothing of its cut write.
+pub record SameStay {D : Type 0} (old new : Stripe D) : Type 0 where
+  pub inside : new.seat.part.state.inside ≡ old.seat.part.state.inside
+  pub flight : new.seat.part.state.flight ≡ old.seat.part.state.flight
+  pub seen : new.seat.part.seen ≡ old.seat.part.seen
+  pub era : new.era ≡ old.era
+  pub cut : new.cut ≡ old.cut
+  pub table : new.seat.table ≡ old.seat.table
 
 -- A pass knows each stay of the stripe as ended, but for a present one.
 abbrev pub Knows : {D : Type 0} → Stripe D → PassToken → Type 0

@@ -137,15 +137,6 @@ left view = record view { state = stripe_out view.state }
 abbrev pub called : StripeView → History → ℕ → StripeView
 called view history faults = record view { history = history; faults = faults }
 
--- Calls that change nothing of a stripe's stay in the gate, and nothing of its cut write.
-pub record SameStay {D : Type 0} (old new : Stripe D) : Type 0 where
-  pub inside : new.seat.part.state.inside ≡ old.seat.part.state.inside
-  pub flight : new.seat.part.state.flight ≡ old.seat.part.state.flight
-  pub seen : new.seat.part.seen ≡ old.seat.part.seen
-  pub era : new.era ≡ old.era
-  pub cut : new.cut ≡ old.cut
-  pub table : new.seat.table ≡ old.seat.table
-
 -- A write is cut.
 abbrev pub HasCut : {D : Type 0} → Stripe D → Type 0
 HasCut stripe = is_some stripe.cut ≡ true

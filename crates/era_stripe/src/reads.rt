@@ -14,8 +14,8 @@ use era_model::{Event, Kind, Why};
 
 impl<D: Disk> Stripe<D> {
     ghost use Rattle.era_stripe.specs.Calls.{Drew, SameStripe};
-    ghost use Rattle.era_stripe.specs.Results.{MayReadAt, read_events};
-    ghost use Rattle.era_stripe.specs.Stripes.{StripeFits, StripeStands, SameStay, part_of};
+    ghost use Rattle.era_stripe.specs.Results.{MayReadAt, SameStay, read_events};
+    ghost use Rattle.era_stripe.specs.Stripes.{StripeFits, StripeStands, part_of};
 
     /// Reads whole sectors of one block, from `sector` of the origin on. The error is the disk's count of faults, which rose;
     /// then the refusal is drawn. One read is the only call of the disk. It takes no memory.

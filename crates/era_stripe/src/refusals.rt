@@ -14,8 +14,8 @@ use era_model::{Event, Kind, Why};
 
 impl<D: Disk> Stripe<D> {
     ghost use Rattle.era_stripe.specs.Calls.{Drew, IsNewCount, MayCall, MayDrawFault, SameRest};
-    ghost use Rattle.era_stripe.specs.Results.{PassedOver};
-    ghost use Rattle.era_stripe.specs.Stripes.{HasCut, StripeFits, StripeStands, SameStay};
+    ghost use Rattle.era_stripe.specs.Results.{PassedOver, SameStay};
+    ghost use Rattle.era_stripe.specs.Stripes.{HasCut, StripeFits, StripeStands};
 
     /// Draws that a command is refused by a fault of this part, with the part's count of faults.
     pub(crate) fn refuse_as(
@@ -44,12 +44,14 @@ impl<D: Disk> Stripe<D> {
         self.note(gate, pass, Event::Refused { id, kind, why });
     }
 
-    /// Draws that a write is refused, since a cut write before it couldn't be resolved: `count` is that of the failed settling.
-    /// It makes no device call and takes no memory.
+    /// Draws that a write is refused, since a cut write before it couldn't be resolved: `count` is that of the failed settling,
+    /// the disk's present one, which rose since the last entry of a stripe that stands. It makes no device call and takes no
+    /// memory.
     pub fn refuse(&mut self, gate: &Gate, pass: &mut Pass, id: CmdId, count: u64)
-        requires may { MayDrawFault D.Disk gate.now self.old pass.old id count }
+        requires may { MayDrawFault D.Disk gate.now self.old pass.old id }
         ensures fits { StripeFits D.Disk self.new }
-        ensures stands { (opening : Opening) → StripeStands D.Disk opening self.old
+        ensures stands { (opening : Opening) → IsNewCount D.Disk self.old count
+            → StripeStands D.Disk opening self.old
             → StripeStands D.Disk opening self.new }
         ensures drew { Drew (Refused id WriteKind (DataFault self.old.index count) ∷ []) no_write
             self.old self.new pass.old pass.new }
@@ -59,13 +61,14 @@ impl<D: Disk> Stripe<D> {
         self.refuse_as(gate, pass, id, Kind::Write, count);
     }
 
-    /// Draws that a checkpoint couldn't resolve the cut write: `count` is that of the failed settling. It makes no device call
-    /// and takes no memory.
+    /// Draws that a checkpoint couldn't resolve the cut write: `count` is that of the failed settling, the disk's present one,
+    /// which rose since the last entry of a stripe that stands. It makes no device call and takes no memory.
     pub fn pass_over(&mut self, gate: &Gate, pass: &mut Pass, by: CmdId, count: u64)
-        requires may { MayDrawFault D.Disk gate.now self.old pass.old by count }
+        requires may { MayDrawFault D.Disk gate.now self.old pass.old by }
         requires cut { HasCut self.old }
         ensures fits { StripeFits D.Disk self.new }
-        ensures stands { (opening : Opening) → StripeStands D.Disk opening self.old
+        ensures stands { (opening : Opening) → IsNewCount D.Disk self.old count
+            → StripeStands D.Disk opening self.old
             → StripeStands D.Disk opening self.new }
         ensures drew { PassedOver self.old.cut by count self.old self.new pass.old pass.new }
         ensures stay { SameStay self.old self.new }

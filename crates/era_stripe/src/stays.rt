@@ -1,7 +1,7 @@
 //! How a stripe enters the gate, looks at its bitmap or is shown a mark, and leaves.
 
 ghost use Rattle.std.specs.Prelude.{◌≡◌, ◌<◌, true};
-ghost use Rattle.era_gate.specs.Calls.{enters, has_mark, leaves, sees, stay_of, pass_enters};
+ghost use Rattle.era_gate.specs.Calls.{enters, leaves, sees, stay_of, pass_enters};
 ghost use Rattle.era_gate.specs.Passes.{KeepsPass, no_write};
 ghost use Rattle.era_model.specs.declared.opening.Opening.{Opening};
 
@@ -10,7 +10,7 @@ use era_base::{CmdId, Disk};
 use era_gate::{Gate, KeeperSeat, Pass};
 
 impl<D: Disk> Stripe<D> {
-    ghost use Rattle.era_stripe.specs.Calls.{LeftBy, MayEnter, MayLeave, SameButStay};
+    ghost use Rattle.era_stripe.specs.Calls.{LeftBy, MayBeShown, MayEnter, MayLeave, SameButStay};
     ghost use Rattle.era_stripe.specs.Stripes.{StripeFits, StripeStands, IsAtRest};
 
     /// Enters the gate for the command: the era in which the stripe is inside. It draws nothing, makes no device call and takes
@@ -58,12 +58,7 @@ impl<D: Disk> Stripe<D> {
     /// Is shown a block that the keeper marked in the present era: it is seen until the stripe leaves, as if a look had found the
     /// bit set. It draws nothing, makes no device call, takes no memory and waits for nobody.
     pub fn be_shown(&mut self, gate: &Gate, keeper: &mut KeeperSeat, block: u32)
-        requires fits { StripeFits D.Disk self.old }
-        requires tables { (keeper.old.table ≡ gate.now.table)
-            × (self.old.seat.table ≡ gate.now.table) }
-        requires inside { self.old.seat.part.state.inside ≡ true }
-        requires marked { has_mark block keeper.old.part.state.era keeper.old.part.state.entries
-            ≡ true }
+        requires may { MayBeShown D.Disk gate.now self.old keeper.old block }
         ensures fits { StripeFits D.Disk self.new }
         ensures stands { (opening : Opening) → StripeStands D.Disk opening self.old
             → StripeStands D.Disk opening self.new }

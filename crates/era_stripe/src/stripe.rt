@@ -5,6 +5,7 @@ ghost use Rattle.era_base.specs.Geometry.{blocks_of};
 ghost use Rattle.era_base.specs.Calls.{Now};
 ghost use Rattle.era_model.specs.declared.opening.Opening.{Opening};
 ghost use Rattle.era_model.specs.declared.history.Happening.TheVariants.{Opened};
+ghost use Rattle.era_notes.specs.Notes.{first_device};
 ghost use Rattle.era_notes.specs.Rooms.{entries_in, free_in, HoldBytes};
 ghost use Rattle.era_notes.specs.declared.room.TheConstants.{ROOM_ENTRIES};
 ghost use Rattle.era_notes.specs.Parts.{part_sectors, HoldsContent};
@@ -53,7 +54,7 @@ impl<D: Disk> Stripe<D> {
             → StripeStands D.Disk opening result }
         ensures parts { (result.disk ≡ disk) × (result.seat ≡ seat) × (result.index ≡ index)
             × (result.geometry ≡ geometry) × (result.first_block ≡ first_block)
-            × (result.blocks ≡ blocks) }
+            × (result.blocks ≡ blocks) × (first_device result.notes ≡ disk) }
     {
         let notes = Notes::begin(&disk);
         Stripe {

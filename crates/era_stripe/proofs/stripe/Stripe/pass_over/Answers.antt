@@ -42,10 +42,9 @@ returns-clause-fits g c =
     (record { size = fits.size; seat = fits.seat; era = fits.era; cut = there })
 
 pub returns-clause-stands : goal.returns-clause-stands
-returns-clause-stands g c = λ opening stands.
+returns-clause-stands g c = λ opening new stands.
     let cut = c.in-Some.cut in
     let view = view_of g.D.Disk c.args.self.now in
-    let new = c.requires.may.new in
     let there = cut-there c.args.self.now cut (sym c.take.ensures.value ∙ c.in-Some.is) c.requires.may.fits.cut in
     let owes = owes-unsettled g.D.Disk.tells opening view c.args.by cut.id c.args.count (cut_flight_of cut there.bytes) there.flight (same_id-refl cut.id) refl new.present new.rose stands in
     subst (ViewStands g.D.Disk.tells opening) (sym c.note.ensures.view) (stands-noted g.D.Disk.tells opening view (Unsettled c.args.by cut.id c.args.count) c.note.result c.note.ensures.drew.next.ascend owes stands)
