@@ -10,6 +10,10 @@ use Rattle.era_model.specs.Validity.{AreValidMarks}
 abbrev pub IsDigest : BlockMarks → ℕ → Option ℕ → Type 0
 IsDigest m era page = digest_of m.archive m.array ≡ Some (era, page)
 
+-- The marks have a digest step left: some set is archived.
+abbrev pub HasStep : BlockMarks → Type 0
+HasStep m = (era : ℕ) × (page : Option ℕ) × IsDigest m era page
+
 -- The marks after a digest step that may have nothing to do.
 abbrev pub digested_by : BlockMarks → Option (ℕ × Option ℕ) → BlockMarks
 digested_by m None = m

@@ -1,10 +1,10 @@
 //! Digest steps of the metadata, each by one commit.
 
-ghost use Rattle.std.specs.Prelude.{◌≡◌, ℕ, false, IfOk, OnOk, OnErr, Some, None};
+ghost use Rattle.std.specs.Prelude.{◌≡◌, ℕ, false, IfOk, MatchResult, OnOk, OnErr, Some, None};
 ghost use Rattle.era_base.specs.Calls.{EachMoment};
 ghost use Rattle.era_base.specs.Faults.{HasCount};
 ghost use Rattle.era_model.specs.Digest.{digest_of, digested};
-ghost use Rattle.era_meta.specs.Digesting.{IsDigest, after_digest};
+ghost use Rattle.era_meta.specs.Digesting.{HasStep, IsDigest, after_digest};
 
 use crate::laws::kept_disk_leaves_its_meanings;
 use crate::metadata::Meta;
@@ -75,12 +75,14 @@ impl<D: Disk> Meta<D> {
 
     /// Works on the oldest archived set: transcribes the least page of the era array that has a block of the set with
     /// another era as its entry, and answers the set's era and the page; where there is no such page it drops the set, and
-    /// answers its era alone. Where no set is archived it answers `None`, and nothing changes. The error is the disk's count
-    /// of faults, which rose; then the marks are as before, in memory and on the disk. It takes no memory.
+    /// answers its era alone. Exactly where no set is archived it answers `None`, and nothing changes. The error is the
+    /// disk's count of faults, which rose: then some set is archived, and the marks are as before, in memory and on the
+    /// disk. It takes no memory.
     pub fn digest_step(&mut self) -> Result<Option<(u32, Option<u32>)>, u64>
         requires ready { IsReady D.Disk self.old }
-        ensures step { IfOk result
-            (λ step. step ≡ digest_of self.old.marks.archive self.old.marks.array) }
+        ensures step { MatchResult result
+            (λ step. step ≡ digest_of self.old.marks.archive self.old.marks.array)
+            (λ _. HasStep self.old.marks) }
         ensures moments { EachMoment D.Disk (MetaStores self.old (after_digest self.old.marks))
             self.old.slots.disk self.new.slots.disk }
         ensures standing { IsStanding D.Disk self.new }

@@ -78,7 +78,8 @@ fn first_closed(zero: &[u8], one: &[u8]) -> u32
 fn wipe_disk<D: Disk>(mut disk: D) -> Result<Slots<D>, MetaRefusal<D>>
     requires { 24 ≤ D.sectors disk }
     ensures moments { EachMoment D.Disk LeavesWiping disk (wiped_disk result) }
-    ensures stands { IfOk result (λ slots. AreBlank slots × Now D.Disk (StandFor slots) slots.disk) }
+    ensures stands { IfOk result (λ slots. AreBlank slots
+        × Now D.Disk (StandFor slots) slots.disk) }
     ensures calls { OnOk result (MakesCalls D.Disk
         (6 + 2 * open_gates (D.history disk).now.seen) disk (wiped_disk result)) }
     ensures fault { IfErr result (λ refusal. IsOnlyFault refusal.error) }

@@ -1,4 +1,5 @@
 use Rattle.std.proofs.Common.{ℕ, Option, Some, None, sym, ap, ◌∙◌, subst, inl, inr}
+use Rattle.std.proofs.lemmas.Result.{err_from_is_err_and}
 use Rattle.era_base.specs.CrashModel.{Went}
 use Rattle.era_base.proofs.Moments.{went-none}
 use Rattle.era_layout.specs.Root.{fields_of}
@@ -48,3 +49,15 @@ returns-in_ok-digest_set-in-Some-default-None-clause-moments g c = λ told.
     let step : IsDigest marks c.in-Some-default-None.era None = sym c.next_digest.ensures ∙ c.in-Some-default-None.is ∙ ap (λ (page : Option ℕ). Some (c.in-Some-default-None.era, page)) c.in-Some-default-None.field-0-1-is in
     subst (λ (m : BlockMarks). Went (MetaStores c.args.self.now m) (g.D.Disk.history c.args.self.now.slots.disk) (g.D.Disk.history c.digest_set.new.self.slots.disk))
     (after-is marks c.in-Some-default-None.era None step) (c.digest_set.ensures.moments told)
+
+pub returns-in_err-digest_page-in-Some-default-Some-clause-step : goal.returns-in_err-digest_page-in-Some-default-Some-clause-step
+returns-in_err-digest_page-in-Some-default-Some-clause-step g c =
+    let marks = c.args.self.now.marks in
+    let step : IsDigest marks c.in-Some-default-Some.era (Some c.in-Some-default-Some.page) = sym c.next_digest.ensures ∙ c.in-Some-default-Some.is ∙ ap (λ (page : Option ℕ). Some (c.in-Some-default-Some.era, page)) c.in-Some-default-Some.field-0-1-is in
+    rw (err_from_is_err_and c.from_residual.result c.from_residual.ensures.1).1 (c.in-Some-default-Some.era, (Some c.in-Some-default-Some.page), step)
+
+pub returns-in_err-digest_set-in-Some-default-None-clause-step : goal.returns-in_err-digest_set-in-Some-default-None-clause-step
+returns-in_err-digest_set-in-Some-default-None-clause-step g c =
+    let marks = c.args.self.now.marks in
+    let step : IsDigest marks c.in-Some-default-None.era None = sym c.next_digest.ensures ∙ c.in-Some-default-None.is ∙ ap (λ (page : Option ℕ). Some (c.in-Some-default-None.era, page)) c.in-Some-default-None.field-0-1-is in
+    rw (err_from_is_err_and c.from_residual-in_err-digest_set-in-Some-default-None.result c.from_residual-in_err-digest_set-in-Some-default-None.ensures.1).1 (c.in-Some-default-None.era, None, step)
