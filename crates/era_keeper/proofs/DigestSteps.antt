@@ -1,16 +1,18 @@
 -- A keeper stands where a digest step is stored, and where that fails.
-use Rattle.std.proofs.Common.{◌≡◌, ℕ, true, false, List, [], ◌∷◌, Option, Some, None, is_some, refl, sym, ap, ◌∙◌, subst, inl, inr, arith}
+use Rattle.std.proofs.Common.{◌≡◌, ℕ, Bool, true, false, List, [], ◌∷◌, ◌++◌, length, nat_lt, Option, Some, None, is_some, refl, sym, ap, ◌∙◌, subst, inl, inr, arith}
+use Rattle.std.specs.Prelude.{if◌then◌else◌}
 use Rattle.std.proofs.lemmas.Bool.{false≢true}
 use Rattle.era_base.specs.Calls.{Now}
 use Rattle.era_base.specs.Faults.{Rose}
 use Rattle.era_base.specs.declared.disk.Disk.{Ghosts}
 use Rattle.era_base.specs.declared.ids.CmdId.{CmdId}
+use Rattle.era_base.specs.declared.limits.TheConstants.{MOST_SETS}
 use Rattle.era_gate.specs.Calls.{has_mark}
 use Rattle.era_meta.specs.declared.metadata.Meta.{Meta}
 use Rattle.era_meta.specs.Held.{snapshot_marks}
 use Rattle.era_meta.specs.Digested.{HasMarks, StillHasMarks}
-use Rattle.era_meta.specs.Digesting.{IsDigest, after_digest, digested_by}
-use Rattle.era_meta.specs.InMemory.{LeavesMeanings}
+use Rattle.era_meta.specs.Digesting.{HasStep, IsDigest, after_digest, digested_by}
+use Rattle.era_meta.specs.InMemory.{IsAheadOf, LeavesMeanings, meaning_in}
 use Rattle.era_meta.specs.MetaCalls.{IsStanding, KeepsSnapshot}
 use Rattle.era_model.specs.declared.event.Event.TheVariants.{Digest, Refused}
 use Rattle.era_model.specs.declared.event.Kind.TheVariants.{Digest as DigestKind}
@@ -19,13 +21,14 @@ use Rattle.era_model.specs.declared.history.Happening.{Happening}
 use Rattle.era_model.specs.declared.opening.Opening.{Opening}
 use Rattle.era_model.specs.Digest.{digest_of, digested}
 use Rattle.era_model.specs.Marking.{held_of, marks_of}
-use Rattle.era_model.specs.Marks.{ArchivedSet, BlockMarks, marks_last_era}
+use Rattle.era_model.specs.Marks.{ArchivedSet, BlockMarks, marks_last_era, rolled, with_current_archived, with_oldest_merged}
 use Rattle.era_model.specs.Promises.{KeepsLastEras, MarksFollowJournal}
 use Rattle.era_model.specs.Validity.{AreValidMarks}
 use Rattle.era_keeper.specs.declared.keeper.Keeper.{Keeper}
 use Rattle.era_keeper.specs.Keepers.{FitsAfter, KeeperStands, comes_back, view_of}
 use Rattle.era_keeper.specs.Recovery.{ComesBack}
 use Rattle.era_keeper.specs.Steps.{last_count_of}
+use Rattle.era_keeper.specs.Storing.{FailsToStoreEra}
 use Rattle.era_keeper.proofs.Backs.{back-still, back-stored, meant}
 use Rattle.era_keeper.proofs.Commits.{owes-failed, owes-stored}
 use Rattle.era_keeper.proofs.Counts.{ascends-since}
@@ -42,6 +45,24 @@ DigestsKeep = (m : BlockMarks) (era : ℕ) (page : Option ℕ) → AreValidMarks
 pub none-archived : (sets : List ArchivedSet) (array : List ℕ) → None ≡ digest_of sets array → sets ≡ []
 none-archived [] array is = refl
 none-archived (oldest ∷ sets) array is = absurd (false≢true (ap (λ (step : Option (ℕ × Option ℕ)). is_some step) is))
+
+-- marks one era switch ahead of what is stored have a set archived
+step-behind : (sets : List ArchivedSet) (last : ArchivedSet) (array : List ℕ) → (era : ℕ) × (page : Option ℕ) × (digest_of (sets ++ last ∷ []) array ≡ Some (era, page))
+step-behind [] last array = (last.era, _, refl)
+step-behind (oldest ∷ sets) last array = (oldest.era, _, refl)
+
+archived-step : (before : BlockMarks) → HasStep (with_current_archived before)
+archived-step before = step-behind before.archive (record { era = before.era; blocks = before.current }) before.array
+
+rolled-step : (m : BlockMarks) → HasStep (rolled m)
+rolled-step m = archived-step (if nat_lt (length m.archive) MOST_SETS then m else with_oldest_merged m m.archive)
+
+unstored-step : {D : Type 0} (disk : Ghosts D) (unstored : Bool) (old new : Meta D) (stored : BlockMarks) → FailsToStoreEra disk unstored old new → IsAheadOf unstored old.marks stored → HasStep old.marks
+unstored-step disk false old new stored failed ahead = absurd failed
+unstored-step disk true old new stored failed ahead = subst HasStep (sym ahead) (rolled-step stored)
+
+pub step-unstored : {D : Type 0} (disk : Ghosts D) (old new : Meta D) → IsStanding disk old → FailsToStoreEra disk old.unstored old new → disk.tells ≡ true → HasStep old.marks
+step-unstored disk old new standing failed told = unstored-step disk old.unstored old new (meaning_in (disk.history old.slots.disk).now old).marks failed (standing.stands told).says
 
 -- the step by its rule
 keeps-by : (m : BlockMarks) (step : Option (ℕ × Option ℕ)) → digest_of m.archive m.array ≡ step → AreValidMarks m → DigestsKeep → KeepsLastEras m (digested_by m step)

@@ -124,6 +124,8 @@ same-rest disk old new same = record {
   table = same.table;
   device = record { place = ap (λ meta. disk.place meta.slots.disk) same.meta; size = ap (λ meta. disk.sectors meta.slots.disk) same.meta };
   began = same.began;
+  sectors = ap (λ meta. meta.marks.sectors) same.meta;
+  block_sectors = ap (λ meta. meta.marks.block_sectors) same.meta;
 }
 
 pub same-then : {D : Type 0} (disk : Ghosts D) (a b c : Keeper D) → SameKeeper disk a b → SameKeeper disk b c → SameKeeper disk a c
@@ -131,4 +133,6 @@ same-then disk a b c one two = record {
   table = two.table ∙ one.table;
   device = record { place = two.device.place ∙ one.device.place; size = two.device.size ∙ one.device.size };
   began = two.began ∙ one.began;
+  sectors = two.sectors ∙ one.sectors;
+  block_sectors = two.block_sectors ∙ one.block_sectors;
 }

@@ -19,4 +19,6 @@ mod CopiedRuns
 mod DigestSteps
 mod Went
 mod Told
+mod Origins
+mod LegalOwn
 mod Rolls

@@ -4,7 +4,7 @@ use Rattle.era_base.specs.declared.disk.Disk.{Ghosts}
 use Rattle.era_base.specs.declared.ids.CmdId.{CmdId}
 use Rattle.era_gate.specs.Calls.{PassToken}
 use Rattle.era_meta.specs.Digested.{HasMarks, StillHasMarks}
-use Rattle.era_meta.specs.Digesting.{IsDigest, after_digest}
+use Rattle.era_meta.specs.Digesting.{HasStep, IsDigest, after_digest}
 use Rattle.era_meta.specs.Held.{snapshot_marks}
 use Rattle.era_meta.specs.declared.metadata.Meta.{Meta}
 use Rattle.era_meta.specs.declared.snapshot.Snapshot.{Snapshot}
@@ -18,7 +18,8 @@ use Rattle.era_keeper.specs.declared.keeper.Keeper.{Keeper}
 use Rattle.era_keeper.specs.Answers.{CanList, ListDid, ListsSince}
 use Rattle.era_keeper.specs.Calls.{Drew, DrewAt, SameMemory}
 use Rattle.era_keeper.specs.InStoredEra.{DigestWent, ListWent, SnapWent, UnsnapWent}
-use Rattle.era_keeper.specs.Results.{DigestDid, SnapDid, UnsnapDid}
+use Rattle.era_keeper.specs.Results.{DigestDid}
+use Rattle.era_keeper.specs.SnapshotResults.{SnapDid, UnsnapDid}
 use Rattle.era_keeper.specs.Storing.{HasBegun, HasStoredEra}
 use Rattle.era_keeper.proofs.Begun.{drew-begun}
 use Rattle.era_keeper.proofs.Drawn.{drew-from, drew-one}
@@ -97,11 +98,16 @@ digest-did disk id Idle old mid new pass between pass' begun went = record {
   first = subst (λ (m : Meta _). HasStoredEra disk old.meta m) (sym went.1) begun.stored;
   drew = drew-begun disk old mid new pass between pass' _ begun went.2;
 }
-digest-did disk id (Fault device count) old mid new pass between pass' begun went = inr (record {
-  between = mid.meta;
-  first = begun.stored;
-  failed = subst (λ (m : BlockMarks). StillHasMarks disk mid.meta (after_digest m) new.meta) begun.memory.marks went.0;
-  kept = went.1;
-  drew = drew-begun disk old mid new pass between pass' _ begun went.2;
-})
+digest-did disk id (Fault device count) old mid new pass between pass' begun went =
+    let some : HasStep old.meta.marks = subst HasStep begun.memory.marks went.0 in (
+      λ told. some,
+      inr (record {
+        some = some;
+        between = mid.meta;
+        first = begun.stored;
+        failed = subst (λ (m : BlockMarks). StillHasMarks disk mid.meta (after_digest m) new.meta) begun.memory.marks went.1;
+        kept = went.2;
+        drew = drew-begun disk old mid new pass between pass' _ begun went.3;
+      }),
+    )
 digest-did disk id answer old mid new pass between pass' begun went = absurd went

@@ -68,11 +68,13 @@ pub record DrewAt {D : Type 0} (event : Event) (place : ℕ) (old new : Keeper D
   pub ascend : AscendFrom 0 new.seat.part.state.entries
   pub few : length new.seat.part.state.entries ≤ 2 ^ 60
 
--- The seat's table stays, and so do the disk's place and size and the device as the session began on it.
+-- The seat's table stays, and so do the disk's place and size, the device as the session began on it, and the origin's sectors and block size, of which the marks are.
 pub record SameKeeper {D : Type 0} (disk : Ghosts D) (old new : Keeper D) : Type 0 where
   pub table : new.seat.table ≡ old.seat.table
   pub device : SameDisk disk old.meta.slots.disk new.meta.slots.disk
   pub began : first_device new.notes ≡ first_device old.notes
+  pub sectors : new.meta.marks.sectors ≡ old.meta.marks.sectors
+  pub block_sectors : new.meta.marks.block_sectors ≡ old.meta.marks.block_sectors
 
 -- A draw changes nothing of a keeper but its seat, its entries and its notes.
 pub record SameRest {D : Type 0} (old new : Keeper D) : Type 0 where

@@ -7,7 +7,7 @@ use Rattle.era_keeper.specs.declared.keeper.Keeper.{Keeper}
 use Rattle.era_keeper.specs.Answers.{ListsSince}
 use Rattle.era_keeper.specs.Calls.{Drew}
 use Rattle.era_meta.specs.Digested.{HasMarks, StillHasMarks}
-use Rattle.era_meta.specs.Digesting.{IsDigest, after_digest}
+use Rattle.era_meta.specs.Digesting.{HasStep, IsDigest, after_digest}
 use Rattle.era_meta.specs.MetaCalls.{KeepsSnapshot}
 use Rattle.era_meta.specs.SnapshotCalls.{CommitsSnapshot, FailsToCommitSnapshot, KeepsMarks}
 use Rattle.era_model.specs.declared.event.Event.TheVariants.{Snap, Dropped, Digest, List as ListEvent, Refused}
@@ -50,6 +50,6 @@ DigestWent disk id (DigestAnswer era page) old new pass pass' =
 DigestWent disk id Idle old new pass pass' =
     (old.meta.marks.archive ≡ []) × (new.meta ≡ old.meta) × Drew (Refused id DigestKind IdleWhy ∷ []) old new pass pass'
 DigestWent disk id (Fault device count) old new pass pass' =
-    StillHasMarks disk old.meta (after_digest old.meta.marks) new.meta × KeepsSnapshot disk old.meta new.meta
+    HasStep old.meta.marks × StillHasMarks disk old.meta (after_digest old.meta.marks) new.meta × KeepsSnapshot disk old.meta new.meta
     × Drew (Refused id DigestKind (MetaFault count) ∷ []) old new pass pass'
 DigestWent disk id answer old new pass pass' = ⊥

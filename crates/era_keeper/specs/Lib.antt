@@ -7,5 +7,6 @@ pub mod Calls
 pub mod Steps
 pub mod Storing
 pub mod Results
+pub mod SnapshotResults
 pub mod Answers
 pub mod InStoredEra

@@ -1,4 +1,4 @@
--- What marks, era switches, digests and snapshots at the keeper came to.
+-- What marks, era switches and digests at the keeper came to.
 use Rattle.std.specs.Prelude.{◌≡◌, ◌⊎◌, ℕ, ◌+◌, ◌<◌, Bool, true, false, [], ◌∷◌, Option, Result, Ok, Err}
 use Rattle.era_base.specs.Faults.{Rose}
 use Rattle.era_base.specs.declared.disk.Disk.{Ghosts}
@@ -10,14 +10,13 @@ use Rattle.era_keeper.specs.Calls.{Drew}
 use Rattle.era_keeper.specs.Storing.{HasStoredEra, IsRefusedFirst}
 use Rattle.era_meta.specs.declared.metadata.Meta.{Meta}
 use Rattle.era_meta.specs.Digested.{HasMarks, StillHasMarks}
-use Rattle.era_meta.specs.Digesting.{IsDigest, after_digest}
+use Rattle.era_meta.specs.Digesting.{HasStep, IsDigest, after_digest}
 use Rattle.era_meta.specs.MetaCalls.{FailsToCommitMarks, IsInMemory, KeepsSnapshot}
-use Rattle.era_meta.specs.SnapshotCalls.{CommitsSnapshot, FailsToCommitSnapshot, KeepsMarks}
-use Rattle.era_model.specs.declared.event.Event.TheVariants.{Tried, Mark, Roll, Kept, Snap, Dropped, Digest, Refused}
-use Rattle.era_model.specs.declared.event.Kind.TheVariants.{Write as WriteKind, Checkpoint as CheckpointKind, TakeSnap as TakeSnapKind, DropSnap as DropSnapKind, Digest as DigestKind}
-use Rattle.era_model.specs.declared.event.Why.TheVariants.{End as EndWhy, Held as HeldWhy, Idle as IdleWhy, MetaFault, NoSnap as NoSnapWhy}
+use Rattle.era_model.specs.declared.event.Event.TheVariants.{Tried, Mark, Roll, Kept, Digest, Refused}
+use Rattle.era_model.specs.declared.event.Kind.TheVariants.{Write as WriteKind, Checkpoint as CheckpointKind, Digest as DigestKind}
+use Rattle.era_model.specs.declared.event.Why.TheVariants.{End as EndWhy, Idle as IdleWhy, MetaFault}
 use Rattle.era_model.specs.declared.reply.Answer.{Answer}
-use Rattle.era_model.specs.declared.reply.Answer.TheVariants.{Digest as DigestAnswer, End, EraIs, Fault, Fine, Held, Idle, Kept as KeptAnswer, NoSnap, Snap as SnapAnswer}
+use Rattle.era_model.specs.declared.reply.Answer.TheVariants.{Digest as DigestAnswer, End, EraIs, Fault, Idle, Kept as KeptAnswer}
 use Rattle.era_model.specs.declared.reply.Device.TheVariants.{Meta as MetaDevice}
 use Rattle.era_model.specs.Digest.{digested}
 use Rattle.era_model.specs.Marks.{with_block, rolled}
@@ -125,84 +124,20 @@ pub record HasNoneToDigest {D : Type 0} (disk : Ghosts D) (id : CmdId) (old new 
   pub first : HasStoredEra disk old.meta new.meta
   pub drew : Drew (Refused id DigestKind IdleWhy ∷ []) old new pass pass'
 
--- A digest step couldn't be stored, and the snapshot is as before.
+-- There was a digest step, but it couldn't be stored, and the snapshot is as before.
 pub record FailsToDigest {D : Type 0} (disk : Ghosts D) (id : CmdId) (count : ℕ) (old new : Keeper D) (pass pass' : PassToken) : Type 0 where
+  pub some : HasStep old.meta.marks
   pub between : Meta D
   pub first : HasStoredEra disk old.meta between
   pub failed : StillHasMarks disk between (after_digest old.meta.marks) new.meta
   pub kept : KeepsSnapshot disk between new.meta
   pub drew : Drew (Refused id DigestKind (MetaFault count) ∷ []) old new pass pass'
 
--- What a digest came to, by its answer.
+-- What a digest came to, by its answer. Where the disk tells its content, the marks have a step left behind a fault: so that there is none is told exactly where no set is archived.
 abbrev pub DigestDid : {D : Type 0} → Ghosts D → CmdId → Answer → Keeper D → Keeper D → PassToken → PassToken → Type 0
 DigestDid disk id (DigestAnswer era page) old new pass pass' = HasMadeDigest disk id era page old new pass pass'
 DigestDid disk id Idle old new pass pass' = HasNoneToDigest disk id old new pass pass'
 DigestDid disk id (Fault device count) old new pass pass' =
-    IsRefusedFirst disk id DigestKind count old new pass pass' ⊎ FailsToDigest disk id count old new pass pass'
+    (disk.tells ≡ true → HasStep old.meta.marks)
+    × (IsRefusedFirst disk id DigestKind count old new pass pass' ⊎ FailsToDigest disk id count old new pass pass')
 DigestDid disk id answer old new pass pass' = ⊥
-
--- A snapshot is held already, at metadata block 2: nothing was done.
-pub record IsHeldAlready {D : Type 0} (id : CmdId) (block : ℕ) (old new : Keeper D) (pass pass' : PassToken) : Type 0 where
-  pub held : old.meta.snapshot.is_held ≡ true
-  pub two : block ≡ 2
-  pub same : new.meta ≡ old.meta
-  pub drew : Drew (Refused id TakeSnapKind (HeldWhy block) ∷ []) old new pass pass'
-
--- A snapshot of the marks was taken, at metadata block 2, by one commit, and the marks are as before.
-pub record HasTaken {D : Type 0} (disk : Ghosts D) (id : CmdId) (block : ℕ) (old new : Keeper D) (pass pass' : PassToken) : Type 0 where
-  pub none : old.meta.snapshot.is_held ≡ false
-  pub two : block ≡ 2
-  pub between : Meta D
-  pub first : HasStoredEra disk old.meta between
-  pub stored : CommitsSnapshot disk between true new.meta
-  pub kept : KeepsMarks disk between new.meta
-  pub drew : Drew (Snap id block ∷ []) old new pass pass'
-
--- It couldn't be taken, and the marks are as before.
-pub record FailsToTake {D : Type 0} (disk : Ghosts D) (id : CmdId) (count : ℕ) (old new : Keeper D) (pass pass' : PassToken) : Type 0 where
-  pub between : Meta D
-  pub first : HasStoredEra disk old.meta between
-  pub failed : FailsToCommitSnapshot disk between true new.meta
-  pub kept : KeepsMarks disk between new.meta
-  pub drew : Drew (Refused id TakeSnapKind (MetaFault count) ∷ []) old new pass pass'
-
--- What a taking of a snapshot came to, by its answer.
-abbrev pub SnapDid : {D : Type 0} → Ghosts D → CmdId → Answer → Keeper D → Keeper D → PassToken → PassToken → Type 0
-SnapDid disk id (Held block) old new pass pass' = IsHeldAlready id block old new pass pass'
-SnapDid disk id (SnapAnswer block) old new pass pass' = HasTaken disk id block old new pass pass'
-SnapDid disk id (Fault device count) old new pass pass' =
-    (old.meta.snapshot.is_held ≡ false)
-    × (IsRefusedFirst disk id TakeSnapKind count old new pass pass' ⊎ FailsToTake disk id count old new pass pass')
-SnapDid disk id answer old new pass pass' = ⊥
-
--- No snapshot is held: nothing was done.
-pub record HoldsNone {D : Type 0} (id : CmdId) (old new : Keeper D) (pass pass' : PassToken) : Type 0 where
-  pub none : old.meta.snapshot.is_held ≡ false
-  pub same : new.meta ≡ old.meta
-  pub drew : Drew (Refused id DropSnapKind NoSnapWhy ∷ []) old new pass pass'
-
--- The snapshot was dropped, by one commit, and the marks are as before.
-pub record HasDropped {D : Type 0} (disk : Ghosts D) (id : CmdId) (old new : Keeper D) (pass pass' : PassToken) : Type 0 where
-  pub held : old.meta.snapshot.is_held ≡ true
-  pub between : Meta D
-  pub first : HasStoredEra disk old.meta between
-  pub stored : CommitsSnapshot disk between false new.meta
-  pub kept : KeepsMarks disk between new.meta
-  pub drew : Drew (Dropped id ∷ []) old new pass pass'
-
--- It couldn't be dropped, and the marks are as before.
-pub record FailsToDrop {D : Type 0} (disk : Ghosts D) (id : CmdId) (count : ℕ) (old new : Keeper D) (pass pass' : PassToken) : Type 0 where
-  pub between : Meta D
-  pub first : HasStoredEra disk old.meta between
-  pub failed : FailsToCommitSnapshot disk between false new.meta
-  pub kept : KeepsMarks disk between new.meta
-  pub drew : Drew (Refused id DropSnapKind (MetaFault count) ∷ []) old new pass pass'
-
--- What a dropping of the snapshot came to, by its answer.
-abbrev pub UnsnapDid : {D : Type 0} → Ghosts D → CmdId → Answer → Keeper D → Keeper D → PassToken → PassToken → Type 0
-UnsnapDid disk id NoSnap old new pass pass' = HoldsNone id old new pass pass'
-UnsnapDid disk id Fine old new pass pass' = HasDropped disk id old new pass pass'
-UnsnapDid disk id (Fault device count) old new pass pass' =
-    (old.meta.snapshot.is_held ≡ true)
-    × (IsRefusedFirst disk id DropSnapKind count old new pass pass' ⊎ FailsToDrop disk id count old new pass pass')
-UnsnapDid disk id answer old new pass pass' = ⊥

@@ -51,9 +51,9 @@ impl<D: Disk> Keeper<D> {
 
     /// Works on the oldest archived set by one commit: it transcribes the least page of the era array that has a block of
     /// the set with another era as its entry, or drops the set where there is none, and draws the set's era and the page, or
-    /// the era alone. Without a fault `Idle` comes exactly where no set is archived. A `Fault` tells the disk's count of
-    /// faults, which rose: of the storing of an unstored era before all this, or of the step's commit; then the marks are as
-    /// before. Each answer but `Digest` draws the refusal. It takes no memory.
+    /// the era alone. `Idle` comes exactly where no set is archived. A `Fault` tells the disk's count of faults, which rose:
+    /// of the storing of an unstored era before all this, or of the step's commit; then some set is archived, and the marks
+    /// are as before. Each answer but `Digest` draws the refusal. It takes no memory.
     pub fn digest(&mut self, gate: &Gate, pass: &mut Pass, id: CmdId) -> Answer
         requires may { MayCall D.Disk gate.now self.old pass.old id 1 }
         ensures fits { KeeperFits D.Disk self.new }

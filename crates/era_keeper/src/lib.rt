@@ -3,6 +3,7 @@
 
 mod digests;
 mod keeper;
+pub mod laws;
 mod lists;
 mod marking;
 mod notes;

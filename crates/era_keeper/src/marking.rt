@@ -1,8 +1,9 @@
 //! How a keeper marks a block: the request, the commit, the draw of the mark, and the bit.
 
-ghost use Rattle.std.specs.Prelude.{◌≡◌, ◌<◌, true, false};
+ghost use Rattle.std.specs.Prelude.{◌≡◌, ◌<◌, true, false, OnOk};
 ghost use Rattle.era_base.specs.Faults.{HasCount};
 ghost use Rattle.era_base.specs.Flags.{has};
+ghost use Rattle.era_gate.specs.Calls.{has_mark};
 ghost use Rattle.era_model.specs.Marks.{blocks_of_marks, marks_last_era};
 ghost use Rattle.era_model.specs.declared.opening.Opening.{Opening};
 
@@ -90,7 +91,9 @@ impl<D: Disk> Keeper<D> {
         requires table { self.old.seat.table ≡ gate.now.table }
         requires block { block < gate.now.plan.blocks }
         requires marked { marks_last_era self.old.meta.marks block ≡ self.old.meta.marks.era }
-        ensures { self.new ≡ self.old }
+        ensures same { self.new ≡ self.old }
+        ensures marked { has_mark block self.new.seat.part.state.era
+            self.new.seat.part.state.entries ≡ true }
     {
         gate.set(&mut self.seat, block);
     }
@@ -113,6 +116,8 @@ impl<D: Disk> Keeper<D> {
             → KeeperStands D.Disk opening self.new }
         ensures did { MarkDid D.Disk (has self.old.meta.marks.current block) id block result
             self.old self.new pass.old pass.new }
+        ensures marked { OnOk result (has_mark block self.new.seat.part.state.era
+            self.new.seat.part.state.entries ≡ true) }
         ensures same { SameKeeper D.Disk self.old self.new }
         ensures cause { HasCount (D.faults self.old.meta.slots.disk)
             (D.faults self.new.meta.slots.disk) result }

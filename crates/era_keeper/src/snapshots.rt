@@ -15,7 +15,8 @@ impl<D: Disk> Keeper<D> {
     ghost use Rattle.era_keeper.specs.Calls.{MayCall, MayDraw, SameKeeper};
     ghost use Rattle.era_keeper.specs.InStoredEra.{SnapWent, UnsnapWent};
     ghost use Rattle.era_keeper.specs.Keepers.{KeeperFits, KeeperStands};
-    ghost use Rattle.era_keeper.specs.Results.{AnswersCount, SnapDid, UnsnapDid};
+    ghost use Rattle.era_keeper.specs.Results.{AnswersCount};
+    ghost use Rattle.era_keeper.specs.SnapshotResults.{SnapDid, UnsnapDid};
 
     /// Takes a snapshot by one commit, in an era that is stored and where none is held.
     fn snap_stored(&mut self, gate: &Gate, pass: &mut Pass, id: CmdId) -> Answer

@@ -1,4 +1,4 @@
-use Rattle.std.proofs.Common.{◌≡◌, ◌∙◌, ℕ, Option, sym, ap, subst}
+use Rattle.std.proofs.Common.{◌≡◌, ◌∙◌, ℕ, Option, refl, sym, ap, subst}
 use Rattle.era_base.specs.Faults.{Rose}
 use Rattle.era_meta.specs.Digested.{HasDigested, HasMarks, StillHasMarks}
 use Rattle.era_meta.specs.Digesting.{IsDigest, after_digest}
@@ -13,7 +13,9 @@ use Rattle.era_notes.specs.Notes.{last_faults}
 use Rattle.era_keeper.specs.Keepers.{KeeperStands, view_of}
 use Rattle.era_keeper.proofs.Counts.{last_faults-le, rose-since}
 use Rattle.era_keeper.proofs.DigestSteps.{comes-digested, none-archived, once-digested, owes-digest, owes-undigested}
+use Rattle.era_keeper.proofs.Drawn.{same-rest, same-then}
 use Rattle.era_keeper.proofs.Fits.{fits-drawn}
+use Rattle.era_keeper.proofs.Origins.{origin-digested, same-over}
 use Rattle.era_keeper.proofs.Quiet.{stands-drawn}
 use Rattle.era_keeper.proofs.Stores.{entries-stored, over}
 use Rattle.era_keeper.proofs.Went.{drew-over}
@@ -36,6 +38,15 @@ returns-in-Ok-None-clause-went g c =
       c.tell.ensures.same.meta ∙ subst (HasDigested g.D.Disk old.meta c.digest_step.new.self) c.in-Ok-None.field-0-is c.in-Ok-None.ensures.ok,
       drew-over old c.tell.new.self c.digest_step.new.self c.args.pass.now c.tell.new.pass _ c.tell.ensures.drew.0 c.tell.ensures.drew.1,
     )
+
+pub returns-in-Ok-None-clause-same : goal.returns-in-Ok-None-clause-same
+returns-in-Ok-None-clause-same g c =
+    let old = c.args.self.now in
+    let meta = c.digest_step.new.self in
+    let is = subst (HasDigested g.D.Disk old.meta meta) c.in-Ok-None.field-0-is c.in-Ok-None.ensures.ok in
+    same-then g.D.Disk old (over old meta) c.tell.new.self
+    (same-over g.D.Disk old meta old.meta.marks c.digest_step.ensures.same.device (ap (λ (m : Meta g.row.D.Denot). m.marks) is) (record { sectors = refl; block_sectors = refl }))
+    (same-rest g.D.Disk (over old meta) c.tell.new.self c.tell.ensures.same)
 
 -- the step is stored
 pub returns-in-Ok-Some-clause-fits : goal.returns-in-Ok-Some-clause-fits
@@ -71,6 +82,15 @@ returns-in-Ok-Some-clause-went g c =
       drew-over old c.note.new.self c.digest_step.new.self c.args.pass.now c.note.new.pass (Digest c.args.id c.in-Ok-Some.era c.in-Ok-Some.page) c.note.result c.note.ensures.drew,
     )
 
+pub returns-in-Ok-Some-clause-same : goal.returns-in-Ok-Some-clause-same
+returns-in-Ok-Some-clause-same g c =
+    let old = c.args.self.now in
+    let meta = c.digest_step.new.self in
+    let has : HasMarks g.D.Disk old.meta (digested old.meta.marks c.in-Ok-Some.page) meta = subst (HasDigested g.D.Disk old.meta meta) c.in-Ok-Some.field-0-is c.in-Ok-Some.ensures.ok in
+    same-then g.D.Disk old (over old meta) c.note.new.self
+    (same-over g.D.Disk old meta (digested old.meta.marks c.in-Ok-Some.page) c.digest_step.ensures.same.device has.memory.marks (origin-digested old.meta.marks c.in-Ok-Some.page))
+    (same-rest g.D.Disk (over old meta) c.note.new.self c.note.ensures.same)
+
 -- it isn't
 pub returns-in-Err-clause-stands : goal.returns-in-Err-clause-stands
 returns-in-Err-clause-stands g c = λ opening stands.
@@ -90,6 +110,7 @@ returns-in-Err-clause-stands g c = λ opening stands.
 pub returns-in-Err-clause-went : goal.returns-in-Err-clause-went
 returns-in-Err-clause-went g c =
     let old = c.args.self.now in (
+      c.in-Err.ensures.step,
       subst (λ (m : Meta g.row.D.Denot). StillHasMarks g.D.Disk old.meta (after_digest old.meta.marks) m) (sym c.note-in-Err.ensures.same.meta) c.in-Err.ensures.err,
       subst (λ (m : Meta g.row.D.Denot). KeepsSnapshot g.D.Disk old.meta m) (sym c.note-in-Err.ensures.same.meta) c.digest_step.ensures.same,
       drew-over old c.note-in-Err.new.self c.digest_step.new.self c.args.pass.now c.note-in-Err.new.pass (Refused c.args.id DigestKind (MetaFault c.in-Err.count)) c.note-in-Err.result c.note-in-Err.ensures.drew,

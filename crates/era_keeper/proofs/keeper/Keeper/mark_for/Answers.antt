@@ -9,14 +9,14 @@ use Rattle.era_keeper.proofs.Drawn.{drew-none}
 use Rattle.era_keeper.proofs.keeper.Keeper.mark_for.Goals as goal
 
 pub returns-then-marked-clause-stands : goal.returns-then-marked-clause-stands
-returns-then-marked-clause-stands g c = λ opening stands. subst (KeeperStands g.D.Disk opening) (sym c.set_bit.ensures) stands
+returns-then-marked-clause-stands g c = λ opening stands. subst (KeeperStands g.D.Disk opening) (sym c.set_bit.ensures.same) stands
 
 pub returns-then-marked-clause-did : goal.returns-then-marked-clause-did
 returns-then-marked-clause-did g c =
     let old = c.args.self.now in
     let is = sym c.marked.ensures ∙ c.if-marked.true in
     subst (λ (flag : Bool). MarkDid g.D.Disk flag c.args.id c.args.block (Ok tt) old c.set_bit.new.self c.args.pass.now c.args.pass.now) (sym is)
-    (ap (λ (k : Keeper g.row.D.Denot). k.meta) c.set_bit.ensures, drew-none old c.set_bit.new.self c.args.pass.now (ap (λ (k : Keeper g.row.D.Denot). k.entries) c.set_bit.ensures))
+    (ap (λ (k : Keeper g.row.D.Denot). k.meta) c.set_bit.ensures.same, drew-none old c.set_bit.new.self c.args.pass.now (ap (λ (k : Keeper g.row.D.Denot). k.entries) c.set_bit.ensures.same))
 
 pub set_bit-requires-in-Ok-clause-marked : goal.set_bit-requires-in-Ok-clause-marked
 set_bit-requires-in-Ok-clause-marked g c =
@@ -27,4 +27,4 @@ set_bit-requires-in-Ok-clause-marked g c =
     ((c.mark_gives_last_era.ensures m block c.are_valid.ensures c.requires.block.1).lasts block ∙ rw itself refl)
 
 pub returns-in-Ok-clause-stands : goal.returns-in-Ok-clause-stands
-returns-in-Ok-clause-stands g c = λ opening stands. subst (KeeperStands g.D.Disk opening) (sym c.set_bit-in-Ok.ensures) (c.mark_unmarked.ensures.stands opening stands)
+returns-in-Ok-clause-stands g c = λ opening stands. subst (KeeperStands g.D.Disk opening) (sym c.set_bit-in-Ok.ensures.same) (c.mark_unmarked.ensures.stands opening stands)

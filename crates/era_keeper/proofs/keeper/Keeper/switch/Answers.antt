@@ -10,8 +10,9 @@ use Rattle.era_model.specs.declared.event.Kind.TheVariants.{Checkpoint as Checkp
 use Rattle.era_model.specs.declared.event.Why.TheVariants.{MetaFault}
 use Rattle.era_model.specs.Marks.{BlockMarks, rolled}
 use Rattle.era_keeper.specs.Keepers.{EntriesStand, KeeperFits, KeeperView, ViewStands, comes_back}
-use Rattle.era_keeper.proofs.Drawn.{drew-one, drew-to, drew-two}
+use Rattle.era_keeper.proofs.Drawn.{drew-one, drew-to, drew-two, same-rest, same-then}
 use Rattle.era_keeper.proofs.Fits.{fits-drawn, fits-rolled, once-again}
+use Rattle.era_keeper.proofs.Origins.{origin-rolled, same-over}
 use Rattle.era_keeper.proofs.Quiet.{OwesDraw, stands-drawn}
 use Rattle.era_keeper.proofs.Rolls.{IsSwitch, RollWent, own2, owes-unrolled, stands-rolled}
 use Rattle.era_keeper.proofs.Stores.{over}
@@ -59,6 +60,13 @@ returns-in-Ok-clause-went g c =
       drew-to old c.note.new.self (over c.note.new.self c.roll.new.self) c.args.pass.now c.note.new.pass _ refl
           (drew-one old c.note.new.self c.args.pass.now c.note.new.pass (Roll c.args.id c.args.era) c.note.result c.note.ensures.drew),
     )
+
+pub returns-in-Ok-clause-same : goal.returns-in-Ok-clause-same
+returns-in-Ok-clause-same g c =
+    let mid = c.note.new.self in
+    let m : BlockMarks = mid.meta.marks in
+    same-then g.D.Disk c.args.self.now mid (over mid c.roll.new.self) (same-rest g.D.Disk c.args.self.now mid c.note.ensures.same)
+    (same-over g.D.Disk mid c.roll.new.self (rolled m) c.roll.ensures.same.device c.in-Ok.ensures.ok.1.marks (origin-rolled m))
 
 -- it isn't
 pub returns-in-Err-clause-fits : goal.returns-in-Err-clause-fits
@@ -120,3 +128,13 @@ returns-in-Err-clause-went g c =
       drew-two old c.note.new.self (over c.note.new.self c.roll.new.self) c.note-in-Err.new.self c.args.pass.now c.note.new.pass c.note-in-Err.new.pass (Roll c.args.id c.args.era)
           (Refused c.args.id CheckpointKind (MetaFault c.in-Err.count)) c.note.result c.note-in-Err.result c.note.ensures.drew refl c.note-in-Err.ensures.drew,
     )
+
+pub returns-in-Err-clause-same : goal.returns-in-Err-clause-same
+returns-in-Err-clause-same g c =
+    let mid = c.note.new.self in
+    let m : BlockMarks = mid.meta.marks in
+    let behind = over mid c.roll.new.self in
+    same-then g.D.Disk c.args.self.now mid c.note-in-Err.new.self (same-rest g.D.Disk c.args.self.now mid c.note.ensures.same)
+    (same-then g.D.Disk mid behind c.note-in-Err.new.self
+    (same-over g.D.Disk mid c.roll.new.self (rolled m) c.roll.ensures.same.device c.in-Err.ensures.err.1.marks (origin-rolled m))
+    (same-rest g.D.Disk behind c.note-in-Err.new.self c.note-in-Err.ensures.same))

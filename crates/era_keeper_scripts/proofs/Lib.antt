@@ -1,0 +1,2 @@
+mod BenchStart
+mod BenchSteps

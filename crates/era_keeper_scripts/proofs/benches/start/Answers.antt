@@ -1,0 +1,41 @@
+use Rattle.std.proofs.Common.{arith, refl, sym, ap, ◌∙◌}
+use Rattle.era_gate.specs.Calls.{KeeperToken, PassToken}
+use Rattle.era_gate.specs.declared.plan.Plan.{Plan}
+use Rattle.era_meta.specs.declared.metadata.Meta.{Meta}
+use Rattle.era_keeper_scripts.proofs.BenchStart.{Laws, begun-fresh}
+use Rattle.era_keeper_scripts.proofs.benches.start.Goals as goal
+
+pub start-keeper-requires-clause-meta : goal.start-keeper-requires-clause-meta
+start-keeper-requires-clause-meta g c =
+    let meta = c.in-Ok-start.meta in
+    let begun = c.in-Ok-start.ensures.begun in
+    let next = c.next_era_keeps_last_eras.ensures in
+    let laws : Laws = record { valid = c.disk_stands_for_valid_marks.ensures.marks; keeps = next.lasts; era = next.era; bounded = c.last_eras_are_bounded.ensures } in
+    record {
+      standing = begun.standing;
+      stored = begun.stored;
+      fresh = λ block. begun-fresh g.D.Disk c.in-Ok.asked c.args.disk meta block laws c.requires.tells begun;
+      below = begun.numbered.1;
+    }
+
+pub returns : goal.returns
+returns g c =
+    let begun = c.in-Ok-start.ensures.begun in
+    let fit = begun.standing.fit in
+    let made = c.in_ok-gate.ensures in
+    let parts = c.start-keeper.ensures.parts in
+    let size = c.in-Ok.ensures.ok in
+    record {
+      bench = record {
+        table = ap (λ (s : KeeperToken). s.table) parts.1 ∙ ap (λ (s : KeeperToken). s.table) made.keeper;
+        pass_table = ap (λ (t : PassToken). t.table) made.pass;
+        covers = ap (λ (p : Plan). p.blocks) made.plan ∙ rw (size.0, size.1) refl;
+        blocks = record {
+          sectors = ap (λ (m : Meta g.row.D.Denot). m.marks.sectors) parts.0 ∙ sym fit.sectors ∙ begun.geometry.0 ∙ size.0;
+          size = ap (λ (m : Meta g.row.D.Denot). m.marks.block_sectors) parts.0 ∙ sym fit.block_sectors ∙ begun.geometry.1 ∙ size.1;
+        };
+        fits = c.start-keeper.ensures.fits;
+        lane = made.lanes 0 (omega arith);
+        budget = omega (arith, ap (λ (t : PassToken). t.part.budget) made.pass);
+      };
+    }
