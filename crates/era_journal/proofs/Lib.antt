@@ -1,1 +1,10 @@
 pub mod ActsLogs
+pub mod Ranges
+pub mod Drews
+pub mod Meets
+pub mod OwnReadings
+pub mod ToldReadings
+pub mod Stands
+pub mod Devices
+pub mod Requests
+pub mod SmallOwners
