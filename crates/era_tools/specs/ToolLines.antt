@@ -75,16 +75,19 @@ applied_line count = number_line (codes "applied ") count
 abbrev pub refused_dump_line : ℕ → DumpKind → List ℕ
 refused_dump_line number kind = codes "line " ++ (decimal number ++ (codes " " ++ (dump_kind_word kind ++ 10 ∷ [])))
 
--- The count of faults of a bay, of a metadata device, of an origin, and of a source that failed.
+-- The count of faults of a bay that failed.
 abbrev pub bay_fault_line : ℕ → List ℕ
 bay_fault_line count = number_line (codes "fault bay ") count
 
+-- The count of faults of a metadata device that failed.
 abbrev pub meta_fault_line : ℕ → List ℕ
 meta_fault_line count = number_line (codes "fault meta ") count
 
+-- The count of faults of an origin that failed.
 abbrev pub data_fault_line : ℕ → List ℕ
 data_fault_line count = number_line (codes "fault data ") count
 
+-- The count of faults of a source that failed.
 abbrev pub source_fault_line : ℕ → List ℕ
 source_fault_line count = number_line (codes "fault source ") count
 
@@ -96,13 +99,15 @@ memory_line = codes "memory\n"
 abbrev pub usage_line : List ℕ
 usage_line = codes "refused Usage\n"
 
--- The numbers are no geometry: a block size that is none, no block, and more blocks than there may be.
+-- The numbers are no geometry: the block size is none.
 abbrev pub block_size_line : ℕ → List ℕ
 block_size_line size = number_line (codes "refused BadBlockSize ") size
 
+-- The numbers are no geometry: there is no block.
 abbrev pub no_blocks_line : List ℕ
 no_blocks_line = codes "refused NoBlocks\n"
 
+-- The numbers are no geometry: there are more blocks than there may be.
 abbrev pub many_blocks_line : ℕ → List ℕ
 many_blocks_line blocks = number_line (codes "refused TooManyBlocks ") blocks
 
@@ -110,10 +115,11 @@ many_blocks_line blocks = number_line (codes "refused TooManyBlocks ") blocks
 abbrev pub same_device_line : List ℕ
 same_device_line = codes "refused SameDevice\n"
 
--- An origin has too few sectors, and a metadata device too few blocks: how many it has, and how many it needs.
+-- An origin has too few sectors: how many it has, and how many it needs.
 abbrev pub origin_small_line : ℕ → ℕ → List ℕ
 origin_small_line have need = numbers_line (codes "refused OriginSmall ") have need
 
+-- A metadata device has too few blocks: how many it has, and how many it needs.
 abbrev pub meta_small_line : ℕ → ℕ → List ℕ
 meta_small_line have need = numbers_line (codes "refused MetaSmall ") have need
 
