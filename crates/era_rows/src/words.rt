@@ -167,7 +167,7 @@ const LATER: Row<'static> = Row {
     ..USAGE
 };
 
-static NOT_YET: [Row<'static>; 11] = [
+static NOT_YET: [Row<'static>; 7] = [
     Row {
         words: &["serve", TABLE, "--stripes", "5"],
         ..LATER
@@ -182,22 +182,6 @@ static NOT_YET: [Row<'static>; 11] = [
     },
     Row {
         words: &["load", TABLE, "7"],
-        ..LATER
-    },
-    Row {
-        words: &["invalidate", "meta", "--written-since", "1"],
-        ..LATER
-    },
-    Row {
-        words: &["check", "meta"],
-        ..LATER
-    },
-    Row {
-        words: &["check", ""],
-        ..LATER
-    },
-    Row {
-        words: &["dump", "meta", "--logical"],
         ..LATER
     },
     Row {
@@ -300,7 +284,7 @@ fn malformed_words_are_no_command(rt: HostRuntime) -> Result<(), Fail> {
 }
 
 #[test]
-fn commands_of_the_tools_are_not_served_yet(rt: HostRuntime) -> Result<(), Fail> {
+fn other_commands_are_not_served_yet(rt: HostRuntime) -> Result<(), Fail> {
     let unmet = first_unmet(&rt, rt.alloc(), NOT_YET.as_slice())?;
     assert_eq!(rt; unmet, None);
     Ok(())

@@ -1,99 +1,61 @@
 -- What a call ends with where nothing is refused and no count rises.
 use Rattle.std.proofs.Common.{◌≡◌, ◌⊎◌, inl, inr, ℕ, ◌<◌, ◌≤◌, List, [], ◌∷◌, ◌++◌, All, refl, ap, sym, suc, ◌∙◌, subst, arith}
 use Rattle.std.specs.Prelude.{Option, Some}
-use Rattle.era_base.specs.declared.geometry.GeomError.{GeomError}
+use Rattle.era_base.specs.declared.disk.Disk.{Ghosts}
 use Rattle.era_base.specs.declared.geometry.Geometry.{Geometry}
-use Rattle.era_base.specs.declared.geometry.GeomError.TheVariants.{BadBlockSize, NoBlocks, TooManyBlocks}
 use Rattle.era_base.specs.Faults.{Rose, NoneRose}
-use Rattle.era_base.specs.Geometry.{IsBlockSize, blocks_of}
 use Rattle.era_line.specs.declared.table_line.TableLine.{TableLine}
 use Rattle.era_model.specs.declared.command.Command.{Command}
 use Rattle.era_plan.specs.declared.round.LineKind.{LineKind}
 use Rattle.era_plan.specs.Stream.{AtEnd, RefusedAt, Stream, stream_rounds}
-use Rattle.era_top.specs.declared.refusal.Refusal.{Refusal}
-use Rattle.era_top.specs.declared.refusal.Refusal.TheVariants.{NoCommand, NotYet, NoRoom, NoGeometry, BayFault, TooSmall}
-use Rattle.era_top.specs.declared.status.Status.{Status}
-use Rattle.era_top.specs.declared.status.Status.TheVariants.{Done, Usage, Line, Fault, Memory, Refused, Source, Sink}
-use Rattle.era_top.specs.Around.{DiskFacts, BayAround, StreamsAround, SomeCountRose, IsFaultless}
-use Rattle.era_top.specs.Refusals.{refusal_status}
-use Rattle.era_top.specs.Reports.{Report, Refuses, Needs, Serves, Reports, IsReported, IsCauseOf, IsNoGeometry}
+use Rattle.era_words.specs.declared.job.Job.{Job}
+use Rattle.era_words.specs.declared.job.Job.TheVariants as job
+use Rattle.era_words.specs.Words.{IsJob}
+use Rattle.era_tools.specs.Around.{BayAround}
+use Rattle.era_tools.specs.Printing.{number_of}
+use Rattle.era_tools.specs.Refusals.{refusal_status}
+use Rattle.era_tools.specs.declared.refusal.Refusal.{Refusal}
+use Rattle.era_tools.specs.declared.refusal.Refusal.TheVariants.{NoGeometry, SameDevice, OriginSmall, Metadata, NoSnap, BayFault, DataFault, NoRoom}
+use Rattle.era_tools.specs.declared.status.Status.{Status}
+use Rattle.era_tools.specs.declared.status.Status.TheVariants.{Done, Damage, Usage, Line, Fault, Memory, Refused, Source, Sink}
+use Rattle.era_top.specs.Around.{StreamsAround, SomeCountRose, IsFaultless}
+use Rattle.era_top.specs.Reports.{Report, Refuses, Serves, Reports, ReportsSession, RunsJob, IsReported, IsCauseOf}
 use Rattle.era_top.specs.Runs.{IsServedCommand}
 use Rattle.era_top.specs.Endings.{EndsBy, RefusesLine}
 use Rattle.era_top.specs.Sessions.{Session, Around}
-use Rattle.era_top.specs.Top.{IsServable, number_of}
-use Rattle.era_top.specs.Words.{IsServe, IsNeed, IsNotYet, IsUnserved}
-use Rattle.era_words.specs.declared.job.Job.TheVariants as job
-use Rattle.era_words.proofs.OneJob.{one_job}
+use Rattle.era_top.specs.Tools.{EndsQuiet, ReportsJob, ReportsTool, RunsTool}
+use Rattle.era_top.specs.Top.{IsServable}
+use Rattle.era_top.specs.Words.{IsServe, IsTool, IsUnserved}
+use Rattle.era_top.proofs.JobEnds.{geometry-never, job-ran, unread-lacks}
+use Rattle.era_top.proofs.ToolEnds.{IsOfInput, tool-so}
 
 -- a count that didn't rise
 pub not-rose : (before now : ℕ) → NoneRose before now → Rose before now → ⊥
 not-rose before now none rose = omega (arith, none.same, none.below, rose)
 
--- the numbers and the origin of a table line that words have
-pub record SameLine (line line' : TableLine) : Type 0 where
-  pub sectors : line'.length ≡ line.length
-  pub origin : line'.origin ≡ line.origin
-  pub block_sectors : line'.block_sectors ≡ line.block_sectors
-
--- words have one table line
-pub same_line : (words : List (List ℕ)) (line line' : TableLine) → IsServe words line → IsServe words line' → SameLine line line'
-same_line words line line' serve serve' =
-    let same = one_job words (job.Serve line' 4 0) (job.Serve line 4 0) serve' serve in
-    let is : line' ≡ line = cc in
-    record {
-      sectors = ap (λ (l : TableLine). l.length) is;
-      origin = ap (λ (l : TableLine). l.origin) is;
-      block_sectors = ap (λ (l : TableLine). l.block_sectors) is;
-    }
-
--- a status that something was refused
+-- a status that something was refused, or that a damage was found
 abbrev pub IsRefusing : Status → Type 0
+IsRefusing Damage = Unit {0}
 IsRefusing Usage = Unit {0}
 IsRefusing Line = Unit {0}
 IsRefusing Refused = Unit {0}
 IsRefusing status = ⊥
 
--- numbers that are a geometry aren't refused
-pub geometry-never : (error : GeomError) (sectors size sectors' size' : ℕ) → sectors' ≡ sectors → size' ≡ size
-    → IsBlockSize size → 0 < sectors → blocks_of sectors size ≤ 65536 → IsNoGeometry error sectors' size' → ⊥
-geometry-never BadBlockSize sectors size sectors' size' s b is some limited cause = cause (subst IsBlockSize (sym b) is)
-geometry-never NoBlocks sectors size sectors' size' s b is some limited cause = omega (arith, cause.1)
-geometry-never (TooManyBlocks count) sectors size sectors' size' s b is some limited cause =
-    let e : blocks_of sectors' size' ≡ blocks_of sectors size = ap (λ n. blocks_of n size') s ∙ ap (blocks_of sectors) b in
-    omega (arith, cause.1, cause.2, e)
-
--- a serve command is no need command
-pub serve-not_need : (words : List (List ℕ)) (line : TableLine) (sectors size : ℕ) → IsServe words line → IsNeed words sectors size → ⊥
-serve-not_need words line sectors size serve need = let same = one_job words (job.Serve line 4 0) (job.Need sectors size) serve need in cc
-
--- a session without options is served
-pub served-serve : (words : List (List ℕ)) (line : TableLine) → IsNotYet words → IsServe words line → ⊥
-served-serve words line (other, is, unserved) serve = subst IsUnserved (one_job words other (job.Serve line 4 0) is serve) unserved (refl, refl)
-
--- a need is served
-pub served-need : (words : List (List ℕ)) (sectors size : ℕ) → IsNotYet words → IsNeed words sectors size → ⊥
-served-need words sectors size (other, is, unserved) need = subst IsUnserved (one_job words other (job.Need sectors size) is need) unserved
-
 -- what can be served isn't refused
-pub refusal-never : (D : Type 0) (words : List (List ℕ)) (bay : BayAround D) (left : Option (List ℕ)) (refusal : Refusal)
-    → IsServable words bay.sizes left → IsRefusing (refusal_status refusal) → IsCauseOf words bay refusal → ⊥
-refusal-never D words bay left NoCommand servable refusing cause = cause.0 (job.Serve servable.line 4 0) servable.serve
-refusal-never D words bay left NotYet servable refusing cause = served-serve words servable.line cause.0 servable.serve
-refusal-never D words bay left NoRoom servable refusing cause = refusing
-refusal-never D words bay left (NoGeometry error size) servable refusing cause = elim cause.0.1 [
-  | inl serve ↦
-      let same = same_line words servable.line serve.0 servable.serve serve.1 in
-      geometry-never error servable.line.length servable.line.block_sectors cause.0.0 size (serve.2 ∙ same.sectors) (serve.3 ∙ same.block_sectors)
-      servable.block_size servable.some servable.limited cause.0.2
-  | inr need ↦ serve-not_need words servable.line cause.0.0 size servable.serve need
-]
-refusal-never D words bay left (BayFault count) servable refusing cause = refusing
-refusal-never D words bay left (TooSmall have need) servable refusing cause =
-    let line = cause.0.0 in
-    let same = same_line words servable.line line servable.serve cause.0.2.serve in
-    let enough : servable.line.length ≤ have =
-    servable.large_enough have (subst (λ (origin : List ℕ). bay.sizes origin ≡ Some have) same.origin cause.0.3) in
-    omega (arith, same.sectors, cause.0.4, cause.1)
+pub refusal-never : (D : Type 0) (words : List (List ℕ)) (bay : BayAround D) (left : Option (List ℕ)) (servable : IsServable words bay.sizes left) (refusal : Refusal)
+    → IsRefusing (refusal_status refusal) → IsCauseOf servable.line bay refusal → ⊥
+refusal-never D words bay left servable NoRoom refusing cause = refusing
+refusal-never D words bay left servable (NoGeometry error size) refusing cause =
+    geometry-never error servable.line.length servable.line.block_sectors
+    (record { block_size = servable.block_size; some = servable.some; limited = servable.limited }) cause.1
+refusal-never D words bay left servable (BayFault count) refusing cause = refusing
+refusal-never D words bay left servable (OriginSmall have need) refusing cause =
+    let enough = servable.large_enough have cause.1 in
+    omega (arith, enough, cause.2, cause.3)
+refusal-never D words bay left servable SameDevice refusing cause = cause
+refusal-never D words bay left servable (Metadata error) refusing cause = cause
+refusal-never D words bay left servable NoSnap refusing cause = cause
+refusal-never D words bay left servable (DataFault count) refusing cause = cause
 
 -- what holds of all holds of one of them
 all-middle : {X : Type 0} (P : X → Type 0) (before : List X) (at : X) (after : List X) → All P (before ++ at ∷ after) → P at
@@ -113,6 +75,7 @@ line-never rounds line kind stream ends served (inr (is, (round, unserved, goes)
 pub session-never : (words : List (List ℕ)) (sizes : List ℕ → Option ℕ) (left : Option (List ℕ)) (g : Geometry) (around : Around) (session : Session) (ended : Status)
     → around.left ≡ left → IsServable words sizes left → IsRefusing ended → EndsBy g around session ended → ⊥
 session-never words sizes left g around session Done is servable refusing cause = refusing
+session-never words sizes left g around session Damage is servable refusing cause = cause
 session-never words sizes left g around session Usage is servable refusing cause = cause
 session-never words sizes left g around session Line is servable refusing cause =
     line-never session.rounds cause.1.line cause.1.kind (stream_rounds servable.text) servable.ends servable.served (cause.1.stream servable.text (is ∙ servable.stream))
@@ -123,33 +86,49 @@ session-never words sizes left g around session Source is servable refusing caus
 session-never words sizes left g around session Sink is servable refusing cause = refusing
 
 -- no right report refuses it
-pub report-never : (D : Type 0) (words : List (List ℕ)) (contents : List ℕ) (disks : DiskFacts D) (bay : BayAround D) (streams : StreamsAround)
-    (report : Report) (ended : Status) → IsServable words bay.sizes streams.left → IsRefusing ended
-    → IsReported words contents disks bay streams report ended → ⊥
-report-never D words contents disks bay streams (Refuses refusal) ended servable refusing right =
-    refusal-never D words bay streams.left refusal servable (subst IsRefusing right.0 refusing) right.1
-report-never D words contents disks bay streams (Needs blocks) ended servable refusing right = subst IsRefusing right.0 refusing
-report-never D words contents disks bay streams (Serves session) ended servable refusing right =
+pub report-never : (D : Type 0) (words : List (List ℕ)) (contents : List ℕ) (disks : Ghosts D) (bay : BayAround D) (streams : StreamsAround)
+    (servable : IsServable words bay.sizes streams.left) (report : Report) (ended : Status) → IsRefusing ended
+    → IsReported servable.line contents disks bay streams report ended → ⊥
+report-never D words contents disks bay streams servable (Refuses refusal) ended refusing right =
+    refusal-never D words bay streams.left servable refusal (subst IsRefusing right.0 refusing) right.1
+report-never D words contents disks bay streams servable (Serves session) ended refusing right =
     session-never words bay.sizes streams.left right.geometry _ session ended refl servable refusing right.cause
 
+-- a session that words ask for was served or refused, or memory or the sink failed before
+pub session-ran : (D : Type 0) (words : List (List ℕ)) (contents : List ℕ) (disks : Ghosts D) (bay : BayAround D) (streams : StreamsAround) (line : TableLine)
+    (result : Status) → IsServe words line → Reports words contents disks bay streams result
+    → ((result ≡ Memory) ⊎ (result ≡ Sink)) ⊎ ReportsSession line contents disks bay streams result
+session-ran D words contents disks bay streams line result serve (inl unread) = inl (unread-lacks D bay streams result words (job.Serve line 4 0) serve unread)
+session-ran D words contents disks bay streams line result serve (inr ran) =
+    elim (job-ran words (λ job. RunsJob contents disks bay streams job result) (job.Serve line 4 0) serve ran) [
+      | inl session ↦ inr session.1
+      | inr other ↦ absurd (other.0 (refl, refl))
+    ]
+
 -- so no call that reports is refusing
-pub status-never : (D : Type 0) (words : List (List ℕ)) (contents : List ℕ) (disks : DiskFacts D) (bay : BayAround D) (streams : StreamsAround)
+pub status-never : (D : Type 0) (words : List (List ℕ)) (contents : List ℕ) (disks : Ghosts D) (bay : BayAround D) (streams : StreamsAround)
     (status : Status) → IsServable words bay.sizes streams.left → IsRefusing status → (status ≡ Sink → ⊥)
     → Reports words contents disks bay streams status → ⊥
 status-never D words contents disks bay streams status servable refusing other reports =
-    elim reports.printed [
-      | inl whole ↦ report-never D words contents disks bay streams reports.report reports.ended servable (subst IsRefusing whole.0 refusing) reports.right
-      | inr front ↦ other front.0
+    elim (session-ran D words contents disks bay streams servable.line status servable.serve reports) [
+      | inl before ↦ elim before [
+        | inl lacked ↦ subst IsRefusing lacked refusing
+        | inr failed ↦ other failed
+      ]
+      | inr session ↦ elim session.printed [
+        | inl whole ↦ report-never D words contents disks bay streams servable session.report session.ended (subst IsRefusing whole.0 refusing) session.right
+        | inr front ↦ other front.0
+      ]
     ]
 
 -- no count rose
-pub some_count-never : (D : Type 0) (disks : DiskFacts D) (bay : BayAround D) (streams : StreamsAround) → IsFaultless disks bay streams → SomeCountRose disks bay → ⊥
+pub some_count-never : (D : Type 0) (disks : Ghosts D) (bay : BayAround D) (streams : StreamsAround) → IsFaultless disks bay streams → SomeCountRose disks bay → ⊥
 some_count-never D disks bay streams faultless (inl rose) = not-rose bay.faults bay.faults' faultless.quiet_bay rose
 some_count-never D disks bay streams faultless (inr some) =
     not-rose (disks.faults some.loan.lent) (disks.faults some.back) (faultless.quiet_disks some.loan some.back some.came_back) some.rose
 
 -- the status then: the stream was served, or memory was refused
-pub faultless-status : (D : Type 0) (words : List (List ℕ)) (disks : DiskFacts D) (bay : BayAround D) (streams : StreamsAround) (status : Status) (number : ℕ)
+pub faultless-status : (D : Type 0) (words : List (List ℕ)) (disks : Ghosts D) (bay : BayAround D) (streams : StreamsAround) (status : Status) (number : ℕ)
     → number ≡ number_of status
     → ((contents : List ℕ) → Reports words contents disks bay streams status)
     → (status ≡ Fault → SomeCountRose disks bay)
@@ -157,6 +136,8 @@ pub faultless-status : (D : Type 0) (words : List (List ℕ)) (disks : DiskFacts
     → (status ≡ Sink → Rose streams.sink_faults streams.sink_faults')
     → IsServable words bay.sizes streams.left → IsFaultless disks bay streams → (number ≡ 0) ⊎ (number ≡ 5)
 faultless-status D words disks bay streams Done number is reports fault source sink servable faultless = inl is
+faultless-status D words disks bay streams Damage number is reports fault source sink servable faultless =
+    absurd (status-never D words [] disks bay streams Damage servable tt (λ e. cc) (reports []))
 faultless-status D words disks bay streams Usage number is reports fault source sink servable faultless =
     absurd (status-never D words [] disks bay streams Usage servable tt (λ e. cc) (reports []))
 faultless-status D words disks bay streams Line number is reports fault source sink servable faultless =
@@ -170,3 +151,27 @@ faultless-status D words disks bay streams Source number is reports fault source
     absurd (not-rose streams.source_faults streams.source_faults' faultless.quiet_source (source refl))
 faultless-status D words disks bay streams Sink number is reports fault source sink servable faultless =
     absurd (not-rose streams.sink_faults streams.sink_faults' faultless.quiet_sink (sink refl))
+
+-- a tool that is served ends quietly
+module _ (D : Type 0) (words : List (List ℕ)) (disks : Ghosts D) (bay : BayAround D) (streams : StreamsAround) where
+  tool-never : (status : Status) (job : Job) → IsTool job → (IsUnserved job → ⊥) → IsJob words job → ReportsTool words disks bay streams status → IsOfInput status → ⊥
+  tool-never status job tool served asked (inl unread) is = elim (unread-lacks D bay streams status words job asked unread) [
+    | inl lacked ↦ subst IsOfInput lacked is
+    | inr failed ↦ subst IsOfInput failed is
+  ]
+  tool-never status job tool served asked (inr ran) is =
+      tool-so D disks bay streams status job tool served (job-ran words (λ job. RunsTool disks bay streams job status) job asked ran) is
+
+  pub quiet-status : (status : Status) (number : ℕ) → number ≡ number_of status → ReportsTool words disks bay streams status
+      → (status ≡ Fault → SomeCountRose disks bay) → (status ≡ Sink → Rose streams.sink_faults streams.sink_faults')
+      → IsFaultless disks bay streams → EndsQuiet words number
+  quiet-status Done number is reports fault sink faultless = record { quiet = λ job tool served asked. inl is }
+  quiet-status Damage number is reports fault sink faultless = record { quiet = λ job tool served asked. inr (inl is) }
+  quiet-status Usage number is reports fault sink faultless = record { quiet = λ job tool served asked. absurd (tool-never Usage job tool served asked reports tt) }
+  quiet-status Line number is reports fault sink faultless = record { quiet = λ job tool served asked. absurd (tool-never Line job tool served asked reports tt) }
+  quiet-status Fault number is reports fault sink faultless = absurd (some_count-never D disks bay streams faultless (fault refl))
+  quiet-status Memory number is reports fault sink faultless = record { quiet = λ job tool served asked. inr (inr (inl is)) }
+  quiet-status Refused number is reports fault sink faultless = record { quiet = λ job tool served asked. inr (inr (inr is)) }
+  quiet-status Source number is reports fault sink faultless = record { quiet = λ job tool served asked. absurd (tool-never Source job tool served asked reports tt) }
+  quiet-status Sink number is reports fault sink faultless =
+      absurd (not-rose streams.sink_faults streams.sink_faults' faultless.quiet_sink (sink refl))

@@ -11,9 +11,9 @@ use Rattle.era_line.specs.declared.text_buffer.TextBuffer.{TextBuffer}
 use Rattle.era_line.specs.TextBuffer.{IsEmpty, Adds}
 use Rattle.era_line.proofs.Gathering.{front-longer}
 use Rattle.era_line.proofs.PartSteps.{HasAdded, HasCut, added-then}
-use Rattle.era_top.specs.declared.status.Status.{Status}
+use Rattle.era_tools.specs.declared.status.Status.{Status}
 use Rattle.era_top.specs.Gathered.{PrintsBehind}
-use Rattle.era_top.specs.Sessions.{Prints}
+use Rattle.era_tools.specs.Printing.{Prints}
 use Rattle.era_model.specs.Transcript.{more_runs_text, run_text}
 
 -- a front of a piece, given behind what was done, is a front of all

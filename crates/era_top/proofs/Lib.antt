@@ -24,10 +24,9 @@ pub mod SoFar
 pub mod SessionEnds
 pub mod RoundEnds
 pub mod Causes
-pub mod LastLoan
-pub mod RefusalTexts
 pub mod SectorLists
+pub mod ToolEnds
+pub mod JobEnds
 pub mod Serving
-pub mod Needing
 pub mod Faultless
 pub mod Exactly

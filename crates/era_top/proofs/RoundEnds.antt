@@ -14,13 +14,14 @@ use Rattle.era_plan.specs.Reading.{HasGivenRound}
 use Rattle.era_plan.specs.declared.stream_reader.Lines.{Lines}
 use Rattle.era_top.specs.declared.outcome.Outcome.{Outcome}
 use Rattle.era_top.specs.declared.progress.Progress.{Progress}
-use Rattle.era_top.specs.declared.status.Status.{Status}
-use Rattle.era_top.specs.declared.status.Status.TheVariants.{Fault, Sink}
+use Rattle.era_tools.specs.declared.status.Status.{Status}
+use Rattle.era_tools.specs.declared.status.Status.TheVariants.{Fault, Sink}
 use Rattle.era_top.specs.Answering.{EndsAtRound, HasNoRoom, HasRunRound, RoundAround}
 use Rattle.era_top.specs.Outcomes.{answers_text, event_count, is_cut_outcome, outcome_line, total_events}
 use Rattle.era_top.specs.Runs.{some_cut, tasks_of, AreAnswered, AreNumbered, IsJournalOf, IsServedCommand}
 use Rattle.era_top.specs.Endings.{GoesOn, HasRunLast}
-use Rattle.era_top.specs.Sessions.{Around, Prints, joined}
+use Rattle.era_top.specs.Sessions.{Around, joined}
+use Rattle.era_tools.specs.Printing.{Prints}
 use Rattle.era_top.specs.Steps.{HaveRunOn}
 use Rattle.era_top.proofs.Gives.{gives_front-within}
 use Rattle.era_top.proofs.RoundRuns.{joined-push}

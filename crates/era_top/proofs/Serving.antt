@@ -1,21 +1,21 @@
 -- What a session reports that was served over a disk that was lent in the same call.
 use Rattle.std.proofs.Common.{◌≡◌, inr, ℕ, ◌+◌, ◌*◌, ◌<◌, List, length, refl, ap, sym, ◌∙◌, subst, arith}
-use Rattle.std.specs.Prelude.{true, Option, Some, slice_get}
-use Rattle.std.proofs.lemmas.Option.{slice_get_within}
+use Rattle.std.specs.Prelude.{true, Option, Some}
 use Rattle.era_base.specs.declared.geometry.Geometry.{Geometry}
 use Rattle.era_base.specs.Bay.{Loan, new_loan, ended_loan, KeepsSizes, HasContent, SameReadsBut}
 use Rattle.era_base.specs.Bytes.{part}
 use Rattle.era_base.specs.Disk.{Place}
 use Rattle.era_base.specs.Faults.{Rose}
 use Rattle.era_line.specs.declared.table_line.TableLine.{TableLine}
-use Rattle.era_top.specs.declared.status.Status.{Status}
-use Rattle.era_top.specs.declared.status.Status.TheVariants.{Fault, Source}
-use Rattle.era_top.specs.Around.{DiskFacts, BayAround, StreamsAround, SomeCountRose, AllReturned}
+use Rattle.era_tools.specs.declared.status.Status.{Status}
+use Rattle.era_tools.specs.declared.status.Status.TheVariants.{Fault, Source}
+use Rattle.era_base.specs.declared.disk.Disk.{Ghosts}
+use Rattle.era_tools.specs.Around.{BayAround}
+use Rattle.era_top.specs.Around.{StreamsAround, SomeCountRose, AllReturned}
 use Rattle.era_top.specs.Openings.{IsOpened, HasServed}
 use Rattle.era_top.specs.Rises.{HasRiseFor}
-use Rattle.era_top.specs.Reports.{Reports, Serves, EndsAsJournal}
-use Rattle.era_top.specs.Words.{IsServe}
-use Rattle.era_top.proofs.LastLoan.{slice_get-last, slice_get-from_last}
+use Rattle.era_top.specs.Reports.{ReportsSession, Serves, EndsAsJournal}
+use Rattle.era_top.proofs.ToolEnds.{one-returned, one-rose}
 use Rattle.era_top.proofs.SectorLists.{seen-is}
 
 -- a bay between the opening and the session
@@ -49,7 +49,7 @@ last_part bay between = record {
   faults' = bay.faults';
 }
 
-module _ (D : Type 0) (line : TableLine) (disks : DiskFacts D) (bay : BayAround D) (between : BayBetween D) (streams : StreamsAround)
+module _ (D : Type 0) (line : TableLine) (disks : Ghosts D) (bay : BayAround D) (between : BayBetween D) (streams : StreamsAround)
     (geometry : Geometry) (lent : D) (result : Status) where
   -- only the origin's sectors read otherwise
   others-but : (origin : List ℕ) (sectors length : ℕ) (place : Place) → place ≡ record { device = origin; first = 0 } → sectors ≡ length
@@ -80,18 +80,17 @@ module _ (D : Type 0) (line : TableLine) (disks : DiskFacts D) (bay : BayAround 
       }
 
   -- its report
-  pub served-reports : (words : List (List ℕ)) (contents : List ℕ) → IsServe words line → IsOpened line disks (first_part bay between) geometry lent → KeepsSizes between.sizes bay.sizes
+  pub served-reports : (contents : List ℕ) → IsOpened line disks (first_part bay between) geometry lent → KeepsSizes between.sizes bay.sizes
       → HasServed geometry contents disks (last_part bay between) streams bay.loans lent result
-      → Reports words contents disks bay streams result
-  served-reports words contents serve opened keeps served =
+      → ReportsSession line contents disks bay streams result
+  served-reports contents opened keeps served =
       let origin = opened.taken.origin in
       record {
         report = Serves served.goes.session;
         ended = served.goes.ended;
         right = record {
-          line = line;
           geometry = geometry;
-          asked = record { serve = serve; sectors = opened.sectors; block_sectors = opened.block_sectors };
+          asked = opened.asked;
           lent = lent;
           back = served.back;
           origin = record { have = origin.have; size = keeps line.origin origin.have origin.size; enough = origin.enough; place = origin.place; sectors = origin.sectors };
@@ -114,18 +113,7 @@ module _ (D : Type 0) (line : TableLine) (disks : DiskFacts D) (bay : BayAround 
 
   -- a fault is one of the disk that was lent
   pub served-fault : (contents : List ℕ) → HasServed geometry contents disks (last_part bay between) streams bay.loans lent result → result ≡ Fault → SomeCountRose disks bay
-  served-fault contents served is = inr (record {
-    loan = ended_loan (new_loan lent) served.back;
-    back = served.back;
-    came_back = record {
-      index = length bay.loans;
-      began = omega arith;
-      found = subst (λ (loans : List (Loan D)). slice_get loans (length bay.loans) ≡ Some (ended_loan (new_loan lent) served.back)) (sym served.loans)
-          (slice_get-last bay.loans (ended_loan (new_loan lent) served.back));
-      ended = refl;
-    };
-    rose = rise-for contents Fault served is;
-  })
+  served-fault contents served is = one-rose D disks bay lent served.back served.loans (rise-for contents Fault served is)
 
   -- the source failed
   pub served-source : (contents : List ℕ) → HasServed geometry contents disks (last_part bay between) streams bay.loans lent result → result ≡ Source
@@ -134,14 +122,4 @@ module _ (D : Type 0) (line : TableLine) (disks : DiskFacts D) (bay : BayAround 
 
   -- the one disk that was lent was put back
   pub served-returned : (contents : List ℕ) → HasServed geometry contents disks (last_part bay between) streams bay.loans lent result → AllReturned bay
-  served-returned contents served = λ index loan began found.
-      let back : Loan D = ended_loan (new_loan lent) served.back in
-      let same : loan ≡ back = slice_get-from_last bay.loans back index loan began
-      (subst (λ (loans : List (Loan D)). slice_get loans index ≡ Some loan) served.loans found) in
-      (served.back, ap (λ (loan : Loan D). loan.back) same)
-
--- no disk was lent
-pub none-returned : (D : Type 0) (bay : BayAround D) → bay.loans' ≡ bay.loans → AllReturned bay
-none-returned D bay same = λ index loan began found.
-    let within = slice_get_within bay.loans index loan (subst (λ (loans : List (Loan D)). slice_get loans index ≡ Some loan) same found) in
-    absurd (omega arith)
+  served-returned contents served = one-returned D bay lent served.back served.loans

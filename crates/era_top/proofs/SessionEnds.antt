@@ -17,13 +17,14 @@ use Rattle.era_plan.specs.declared.round.PlanError.TheVariants.{Line as LineErro
 use Rattle.era_plan.specs.declared.stream_reader.Lines.{Lines}
 use Rattle.era_top.specs.declared.outcome.Outcome.{Outcome}
 use Rattle.era_top.specs.declared.progress.Progress.{Progress}
-use Rattle.era_top.specs.declared.status.Status.{Status}
-use Rattle.era_top.specs.declared.status.Status.TheVariants.{Memory}
+use Rattle.era_tools.specs.declared.status.Status.{Status}
+use Rattle.era_tools.specs.declared.status.Status.TheVariants.{Memory}
 use Rattle.era_top.specs.Answered.{some_says_memory}
 use Rattle.era_top.specs.Outcomes.{answers_text, total_events}
 use Rattle.era_top.specs.Runs.{commands_from, tasks_of}
 use Rattle.era_top.specs.Endings.{ComesNext, EndsBy, GoesOn, GoesOnWith, HasDoneAll, HasReadAll, IsFirstUnserved, StreamIs, with_rounds}
-use Rattle.era_top.specs.Sessions.{Around, Prints, end_status, joined, plan_error_at, status_of, stop_of}
+use Rattle.era_top.specs.Sessions.{Around, end_status, joined, plan_error_at, status_of, stop_of}
+use Rattle.era_tools.specs.Printing.{Prints}
 use Rattle.era_top.proofs.Relined.{numbered-relined, relined-back, written-relined}
 use Rattle.era_top.proofs.RunLaws.{answered-lack}
 use Rattle.era_top.proofs.SessionSteps.{RanRounds, behind-text, prints-behind, session-right}

@@ -16,12 +16,13 @@ use Rattle.era_model.specs.Writes.{block_bytes}
 use Rattle.era_plan.specs.Stream.{stream_rounds}
 use Rattle.era_top.specs.declared.outcome.Outcome.{Outcome}
 use Rattle.era_top.specs.declared.outcome.Outcome.TheVariants.{OutOfRange, Done, Cut, Moved, LastEra, Listed, NoMemory as NoMemoryOutcome}
-use Rattle.era_top.specs.declared.status.Status.{Status}
-use Rattle.era_top.specs.declared.status.Status.TheVariants.{Memory, Sink}
+use Rattle.era_tools.specs.declared.status.Status.{Status}
+use Rattle.era_tools.specs.declared.status.Status.TheVariants.{Memory, Sink}
 use Rattle.era_top.specs.Outcomes.{answers_text, era_after, event_count, total_events}
 use Rattle.era_top.specs.Runs.{commands_from, tasks_of, AreAnswered, AreNumbered, IsJournalOf, ReadsAsJournal}
 use Rattle.era_top.specs.Endings.{Goes, GoesOn}
-use Rattle.era_top.specs.Sessions.{Session, Around, IsSession, Prints, joined, rounds_of, session_text, text_behind_open}
+use Rattle.era_top.specs.Sessions.{Session, Around, IsSession, joined, rounds_of, session_text, text_behind_open}
+use Rattle.era_tools.specs.Printing.{Prints}
 use Rattle.era_line.proofs.Gathering.{front-longer}
 use Rattle.era_top.proofs.Gives.{gives_front-within}
 use Rattle.era_top.proofs.Journals.{at_opening-known}

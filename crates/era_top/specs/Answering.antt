@@ -9,11 +9,11 @@ use Rattle.era_model.specs.declared.command.Command.{Command}
 use Rattle.era_model.specs.Transcript.{NoMemory, stop_line, end_line}
 use Rattle.era_top.specs.declared.outcome.Outcome.{Outcome}
 use Rattle.era_top.specs.declared.progress.Progress.{Progress}
-use Rattle.era_top.specs.declared.status.Status.{Status}
-use Rattle.era_top.specs.declared.status.Status.TheVariants.{Fault, Memory, Sink}
+use Rattle.era_tools.specs.declared.status.Status.{Status}
+use Rattle.era_tools.specs.declared.status.Status.TheVariants.{Fault, Memory, Sink}
 use Rattle.era_top.specs.Outcomes.{answers_text, total_events}
 use Rattle.era_top.specs.Runs.{some_cut, some_lack, tasks_of}
-use Rattle.era_top.specs.Sessions.{Prints}
+use Rattle.era_tools.specs.Printing.{Prints}
 use Rattle.era_top.specs.Steps.{RunBehind, StopsWhereCut}
 
 -- What a round has around it: the session between the rounds, the disk and its count of faults, and what the sink was given.

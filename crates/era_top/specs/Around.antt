@@ -1,31 +1,13 @@
 -- What stands outside of a call, when it began and when it returned.
 use Rattle.std.specs.Prelude.{◌≡◌, ◌⊎◌, ℕ, ◌≤◌, Bool, List, length, slice_get, Option, Some}
 use Rattle.era_base.specs.Bay.{Loan}
-use Rattle.era_base.specs.CrashModel.{History}
-use Rattle.era_base.specs.Disk.{Place}
 use Rattle.era_base.specs.Faults.{Rose, NoneRose}
-use Rattle.era_base.specs.declared.disk.Disk.{Ghosts as DiskMembers}
-use Rattle.era_base.specs.declared.bay.Bay.{Ghosts as BayMembers}
+use Rattle.era_base.specs.declared.disk.Disk.{Ghosts}
 use Rattle.era_base.specs.declared.streams.Source.{Ghosts as SourceMembers}
 use Rattle.era_base.specs.declared.streams.Sink.{Ghosts as SinkMembers}
-
--- What a bay's disks tell: their place, their size, their states, their counts of faults, and whether they tell their content.
-pub record DiskFacts (D : Type 0) : Type 0 where
-  pub place : D → Place
-  pub sectors : D → ℕ
-  pub history : D → History
-  pub faults : D → ℕ
-  pub tells : Bool
-
--- A bay around a call: the sizes that are told in the end, what sectors read as, the loans, and the count of faults.
-pub record BayAround (D : Type 0) : Type 0 where
-  pub sizes : List ℕ → Option ℕ
-  pub reads : List ℕ → ℕ → Option (List ℕ)
-  pub reads' : List ℕ → ℕ → Option (List ℕ)
-  pub loans : List (Loan D)
-  pub loans' : List (Loan D)
-  pub faults : ℕ
-  pub faults' : ℕ
+use Rattle.era_tools.specs.Around.{BayAround}
+use Rattle.era_tools.specs.declared.status.Status.{Status}
+use Rattle.era_tools.specs.declared.status.Status.TheVariants.{Fault, Source}
 
 -- A source and a sink around a call: the bytes that are left of the one, those that were given to the other, and their counts of faults.
 pub record StreamsAround : Type 0 where
@@ -37,28 +19,6 @@ pub record StreamsAround : Type 0 where
   pub given' : Option (List ℕ)
   pub sink_faults : ℕ
   pub sink_faults' : ℕ
-
--- What the disks of a type tell.
-abbrev pub disk_facts : {D : Type 0} → DiskMembers D → DiskFacts D
-disk_facts disk = record {
-  place = disk.place;
-  sectors = disk.sectors;
-  history = disk.history;
-  faults = disk.faults;
-  tells = disk.tells;
-}
-
--- A bay around a call, by what it was when the call began and when it returned.
-abbrev pub bay_around : {B D : Type 0} → BayMembers B D → B → B → BayAround D
-bay_around bay old new = record {
-  sizes = bay.sizes new;
-  reads = bay.reads old;
-  reads' = bay.reads new;
-  loans = bay.loans old;
-  loans' = bay.loans new;
-  faults = bay.faults old;
-  faults' = bay.faults new;
-}
 
 -- A source and a sink around a call, by what they were when it began and when it returned.
 abbrev pub streams_around : {S K : Type 0} → SourceMembers S → SinkMembers K → S → S → K → K → StreamsAround
@@ -73,6 +33,11 @@ streams_around source sink source_old source_new sink_old sink_new = record {
   sink_faults' = sink.faults sink_new;
 }
 
+-- Nothing was taken of the source, and its count of faults is as before.
+pub record LeavesSource (streams : StreamsAround) : Type 0 where
+  pub left : streams.left' ≡ streams.left
+  pub faults : streams.source_faults' ≡ streams.source_faults
+
 -- A loan began in the call, and this disk was put back for it.
 pub record CameBack {D : Type 0} (bay : BayAround D) (loan : Loan D) (back : D) : Type 0 where
   pub index : ℕ
@@ -81,15 +46,23 @@ pub record CameBack {D : Type 0} (bay : BayAround D) (loan : Loan D) (back : D) 
   pub ended : loan.back ≡ Some back
 
 -- The count of a disk rose that was lent and put back in the call.
-pub record SomeDiskRose {D : Type 0} (disks : DiskFacts D) (bay : BayAround D) : Type 0 where
+pub record SomeDiskRose {D : Type 0} (disks : Ghosts D) (bay : BayAround D) : Type 0 where
   pub loan : Loan D
   pub back : D
   pub came_back : CameBack bay loan back
   pub rose : Rose (disks.faults loan.lent) (disks.faults back)
 
 -- The bay's count rose, or that of a disk that it lent in the call.
-abbrev pub SomeCountRose : {D : Type 0} → DiskFacts D → BayAround D → Type 0
+abbrev pub SomeCountRose : {D : Type 0} → Ghosts D → BayAround D → Type 0
 SomeCountRose disks bay = Rose bay.faults bay.faults' ⊎ SomeDiskRose disks bay
+
+-- The count of the bay or of a disk rose in the call, where the run ended by a fault.
+abbrev pub HasFaultCause : {D : Type 0} → Ghosts D → BayAround D → Status → Type 0
+HasFaultCause disk bay result = result ≡ Fault → SomeCountRose disk bay
+
+-- The source's count rose in the call, where the run ended by its failure.
+abbrev pub HasSourceCause : StreamsAround → Status → Type 0
+HasSourceCause streams result = result ≡ Source → Rose streams.source_faults streams.source_faults'
 
 -- Each disk that was lent in the call was put back.
 abbrev pub AllReturned : {D : Type 0} → BayAround D → Type 0
@@ -97,7 +70,7 @@ AllReturned {D} bay =
     (index : ℕ) (loan : Loan D) → length bay.loans ≤ index → slice_get bay.loans' index ≡ Some loan → (back : D) × (loan.back ≡ Some back)
 
 -- No count of the source, the sink, the bay or a disk that it lent in the call rose.
-pub record IsFaultless {D : Type 0} (disks : DiskFacts D) (bay : BayAround D) (streams : StreamsAround) : Type 0 where
+pub record IsFaultless {D : Type 0} (disks : Ghosts D) (bay : BayAround D) (streams : StreamsAround) : Type 0 where
   pub quiet_source : NoneRose streams.source_faults streams.source_faults'
   pub quiet_sink : NoneRose streams.sink_faults streams.sink_faults'
   pub quiet_bay : NoneRose bay.faults bay.faults'

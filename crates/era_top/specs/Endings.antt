@@ -13,11 +13,12 @@ use Rattle.era_plan.specs.declared.round.LineKind.TheVariants.{NotYet}
 use Rattle.era_plan.specs.Kinds.{kind_text}
 use Rattle.era_plan.specs.Reading.{StopsInRound}
 use Rattle.era_plan.specs.Stream.{Standing, Stream, AtEnd, RefusedAt, stream_rounds, stream_from}
-use Rattle.era_top.specs.declared.status.Status.{Status}
-use Rattle.era_top.specs.declared.status.Status.TheVariants.{Done, Line, Fault, Memory, Source, Sink}
+use Rattle.era_tools.specs.declared.status.Status.{Status}
+use Rattle.era_tools.specs.declared.status.Status.TheVariants.{Done, Line, Fault, Memory, Source, Sink}
 use Rattle.era_top.specs.Answered.{some_says_memory, EndInFault}
 use Rattle.era_top.specs.Runs.{IsServedCommand}
-use Rattle.era_top.specs.Sessions.{Session, Around, IsSession, Prints, joined, session_text, text_behind_open}
+use Rattle.era_top.specs.Sessions.{Session, Around, IsSession, joined, session_text, text_behind_open}
+use Rattle.era_tools.specs.Printing.{Prints}
 
 -- Rounds, and then a stream.
 abbrev pub with_rounds : List (List Command) → Stream → Stream

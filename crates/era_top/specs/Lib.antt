@@ -10,8 +10,8 @@ pub mod Rises
 pub mod Around
 pub mod Words
 pub mod Refusals
+pub mod Tools
 pub mod Reports
-pub mod Needs
 pub mod Openings
 pub mod Exactly
 pub mod Top

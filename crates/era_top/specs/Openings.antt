@@ -1,5 +1,6 @@
 -- What opening the origin of a table line does, and serving a session over it.
 use Rattle.std.specs.Prelude.{◌≡◌, ℕ, ◌<◌, List, [], ◌∷◌, ◌++◌, true, Some, Result, MatchResult}
+use Rattle.era_base.specs.declared.disk.Disk.{Ghosts}
 use Rattle.era_base.specs.declared.geometry.Geometry.{Geometry}
 use Rattle.era_base.specs.declared.bay_error.BayError.{BayError}
 use Rattle.era_base.specs.declared.bay_error.BayError.TheVariants.{Failed, Memory}
@@ -7,19 +8,19 @@ use Rattle.era_base.specs.Bay.{Loan, new_loan, ended_loan, NowReadsAs, ReadsAs, 
 use Rattle.era_base.specs.CrashModel.{IsWhole}
 use Rattle.era_base.specs.Faults.{Rose}
 use Rattle.era_line.specs.declared.table_line.TableLine.{TableLine}
-use Rattle.era_top.specs.declared.refusal.Refusal.{Refusal}
-use Rattle.era_top.specs.declared.refusal.Refusal.TheVariants.{NoRoom, BayFault, TooSmall}
-use Rattle.era_top.specs.declared.status.Status.{Status}
-use Rattle.era_top.specs.declared.status.Status.TheVariants.{Fault}
-use Rattle.era_top.specs.Around.{DiskFacts, BayAround, StreamsAround}
-use Rattle.era_top.specs.Refusals.{refusal_status}
-use Rattle.era_top.specs.Reports.{IsCauseOf, IsOrigin, LeavesBay, around_session}
+use Rattle.era_tools.specs.declared.refusal.Refusal.{Refusal}
+use Rattle.era_tools.specs.declared.refusal.Refusal.TheVariants.{NoRoom, BayFault, OriginSmall}
+use Rattle.era_tools.specs.declared.status.Status.{Status}
+use Rattle.era_tools.specs.declared.status.Status.TheVariants.{Fault}
+use Rattle.era_tools.specs.Around.{BayAround, LeavesBay}
+use Rattle.era_tools.specs.Refusals.{refusal_status}
+use Rattle.era_top.specs.Around.{StreamsAround}
+use Rattle.era_top.specs.Reports.{HasGeometry, IsCauseOf, IsOrigin, around_session}
 use Rattle.era_top.specs.Rises.{HasRiseFor}
 use Rattle.era_top.specs.Endings.{Goes}
-use Rattle.era_top.specs.Words.{IsServe}
 
 -- The origin of a table line was lent as it reads, and its loan is the last one.
-pub record IsOriginLent {D : Type 0} (disks : DiskFacts D) (bay : BayAround D) (line : TableLine) (lent : D) : Type 0 where
+pub record IsOriginLent {D : Type 0} (disks : Ghosts D) (bay : BayAround D) (line : TableLine) (lent : D) : Type 0 where
   pub origin : IsOrigin disks bay line lent
   pub content : disks.tells ≡ true → ReadsAs bay.reads line.origin 0 line.length (disks.history lent).now
   pub loans : bay.loans' ≡ bay.loans ++ new_loan lent ∷ []
@@ -30,7 +31,7 @@ pub record IsOriginLent {D : Type 0} (disks : DiskFacts D) (bay : BayAround D) (
 abbrev pub IsOriginCause : {D : Type 0} → BayAround D → TableLine → Refusal → Type 0
 IsOriginCause bay line NoRoom = bay.faults' ≡ bay.faults
 IsOriginCause bay line (BayFault count) = (count ≡ bay.faults') × Rose bay.faults bay.faults'
-IsOriginCause bay line (TooSmall have need) =
+IsOriginCause bay line (OriginSmall have need) =
     (bay.sizes line.origin ≡ Some have) × (need ≡ line.length) × (have < need) × (bay.faults' ≡ bay.faults)
 IsOriginCause bay line refusal = ⊥
 
@@ -40,28 +41,27 @@ bay_refusal count Failed = BayFault count
 bay_refusal count Memory = NoRoom
 
 -- The origin of a table line was lent, or wasn't for this cause.
-abbrev pub OpensOrigin : {D : Type 0} → DiskFacts D → BayAround D → TableLine → Result D Refusal → Type 0
+abbrev pub OpensOrigin : {D : Type 0} → Ghosts D → BayAround D → TableLine → Result D Refusal → Type 0
 OpensOrigin disks bay line result = MatchResult result (IsOriginLent disks bay line) (λ refusal. IsOriginCause bay line refusal × LeavesBay bay)
 
 -- The origin of a table line was lent, with the geometry that the line gives it.
-pub record IsOpened {D : Type 0} (line : TableLine) (disks : DiskFacts D) (bay : BayAround D) (geometry : Geometry) (lent : D) : Type 0 where
-  pub sectors : geometry.sectors ≡ line.length
-  pub block_sectors : geometry.block_sectors ≡ line.block_sectors
+pub record IsOpened {D : Type 0} (line : TableLine) (disks : Ghosts D) (bay : BayAround D) (geometry : Geometry) (lent : D) : Type 0 where
+  pub asked : HasGeometry line geometry
   pub taken : IsOriginLent disks bay line lent
 
--- The origin of a table line wasn't lent. Of whatever words ask for a session over it, this is the cause, and a fault is the bay's.
+-- The origin of a table line wasn't lent for this cause, and a fault is the bay's.
 pub record IsUnopened {D : Type 0} (line : TableLine) (bay : BayAround D) (refusal : Refusal) : Type 0 where
-  pub cause : (words : List (List ℕ)) → IsServe words line → IsCauseOf words bay refusal
+  pub cause : IsCauseOf line bay refusal
   pub left : LeavesBay bay
   pub rose : refusal_status refusal ≡ Fault → Rose bay.faults bay.faults'
 
 -- The origin of a table line was lent, or wasn't for this cause.
-abbrev pub OpensAsAsked : {D : Type 0} → TableLine → DiskFacts D → BayAround D → Result (Geometry × D) Refusal → Type 0
+abbrev pub OpensAsAsked : {D : Type 0} → TableLine → Ghosts D → BayAround D → Result (Geometry × D) Refusal → Type 0
 OpensAsAsked line disks bay result =
     MatchResult result (λ opened. IsOpened line disks bay opened.0 opened.1) (IsUnopened line bay)
 
 -- A session was served over a disk, and the disk was put back behind the loans that began before it.
-pub record HasServed {D : Type 0} (geometry : Geometry) (contents : List ℕ) (disks : DiskFacts D) (bay : BayAround D)
+pub record HasServed {D : Type 0} (geometry : Geometry) (contents : List ℕ) (disks : Ghosts D) (bay : BayAround D)
     (streams : StreamsAround) (before : List (Loan D)) (lent : D) (result : Status) : Type 0 where
   pub back : D
   pub loans : bay.loans' ≡ before ++ ended_loan (new_loan lent) back ∷ []

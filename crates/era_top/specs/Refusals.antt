@@ -1,32 +1,23 @@
--- The lines that tell why a call serves nothing, and the status of each.
-use Rattle.std.specs.Prelude.{ℕ, List, [], ◌∷◌, ◌++◌, codes, decimal}
-use Rattle.era_base.specs.declared.geometry.GeomError.{GeomError}
-use Rattle.era_base.specs.declared.geometry.GeomError.TheVariants.{BadBlockSize, NoBlocks, TooManyBlocks}
-use Rattle.era_top.specs.declared.refusal.Refusal.{Refusal}
-use Rattle.era_top.specs.declared.refusal.Refusal.TheVariants.{NoCommand, NotYet, NoRoom, NoGeometry, BayFault, TooSmall}
-use Rattle.era_top.specs.declared.status.Status.{Status}
-use Rattle.era_top.specs.declared.status.Status.TheVariants.{Usage, Fault, Memory, Refused}
+-- The lines of words that are refused, and the status of each.
+use Rattle.std.specs.Prelude.{ℕ, List, codes}
+use Rattle.era_tools.specs.ToolLines.{memory_line, usage_line}
+use Rattle.era_tools.specs.declared.status.Status.{Status}
+use Rattle.era_tools.specs.declared.status.Status.TheVariants.{Usage, Memory}
+use Rattle.era_top.specs.declared.refusal.WordsRefusal.{WordsRefusal}
+use Rattle.era_top.specs.declared.refusal.WordsRefusal.TheVariants.{NoCommand, NotYet, NoRoom}
 
--- The line that refuses a geometry.
-abbrev pub geometry_text : GeomError → ℕ → List ℕ
-geometry_text BadBlockSize size = codes "refused BadBlockSize " ++ decimal size ++ 10 ∷ []
-geometry_text NoBlocks size = codes "refused NoBlocks" ++ 10 ∷ []
-geometry_text (TooManyBlocks blocks) size = codes "refused TooManyBlocks " ++ decimal blocks ++ 10 ∷ []
+-- The words are a command that isn't served yet.
+abbrev pub not_yet_line : List ℕ
+not_yet_line = codes "refused NotYet\n"
 
--- The line of a refusal.
-abbrev pub refusal_text : Refusal → List ℕ
-refusal_text NoCommand = codes "refused Usage" ++ 10 ∷ []
-refusal_text NotYet = codes "refused NotYet" ++ 10 ∷ []
-refusal_text NoRoom = codes "memory" ++ 10 ∷ []
-refusal_text (NoGeometry error size) = geometry_text error size
-refusal_text (BayFault count) = codes "fault bay " ++ decimal count ++ 10 ∷ []
-refusal_text (TooSmall have need) = codes "refused OriginSmall " ++ decimal have ++ codes " " ++ decimal need ++ 10 ∷ []
+-- The line of words that are refused.
+abbrev pub words_text : WordsRefusal → List ℕ
+words_text NoCommand = usage_line
+words_text NotYet = not_yet_line
+words_text NoRoom = memory_line
 
--- The status of a call that ends by a refusal.
-abbrev pub refusal_status : Refusal → Status
-refusal_status NoCommand = Usage
-refusal_status NotYet = Usage
-refusal_status NoRoom = Memory
-refusal_status (NoGeometry error size) = Refused
-refusal_status (BayFault count) = Fault
-refusal_status (TooSmall have need) = Refused
+-- The status of a call whose words are refused.
+abbrev pub words_status : WordsRefusal → Status
+words_status NoCommand = Usage
+words_status NotYet = Usage
+words_status NoRoom = Memory

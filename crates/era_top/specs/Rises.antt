@@ -1,8 +1,9 @@
 -- Which counts of faults rose, by how a run ended.
 use Rattle.std.specs.Prelude.{◌≡◌, ℕ, Option, Some, None}
 use Rattle.era_base.specs.Faults.{Rose}
-use Rattle.era_top.specs.declared.status.Status.{Status}
-use Rattle.era_top.specs.declared.status.Status.TheVariants.{Fault, Source, Sink}
+use Rattle.era_tools.specs.Printing.{HasSinkCause}
+use Rattle.era_tools.specs.declared.status.Status.{Status}
+use Rattle.era_tools.specs.declared.status.Status.TheVariants.{Fault, Source, Sink}
 
 -- The counts that rose where a run ended so.
 abbrev pub HasRiseFor : Status → ℕ → ℕ → ℕ → ℕ → ℕ → ℕ → Type 0
@@ -10,11 +11,6 @@ HasRiseFor Fault source source' sink sink' disk disk' = Rose disk disk'
 HasRiseFor Source source source' sink sink' disk disk' = Rose source source'
 HasRiseFor Sink source source' sink sink' disk disk' = Rose sink sink'
 HasRiseFor status source source' sink sink' disk disk' = Unit {0}
-
--- A run ended by the sink's failure exactly where it failed: its count of faults rose, and is as it was where the run ended otherwise.
-pub record HasSinkCause (before now : ℕ) (result : Status) : Type 0 where
-  pub rose : result ≡ Sink → Rose before now
-  pub kept : (result ≡ Sink → ⊥) → now ≡ before
 
 -- The counts that rose at a round of a session: the sink's exactly where the session ended by its failure there, and the disk's where it ended by a fault; where the session goes on, none.
 abbrev pub HasAnswerCause : Option Status → ℕ → ℕ → ℕ → ℕ → Type 0

@@ -1,11 +1,10 @@
 -- Sessions: what one tells, its text, and what a sink has of it.
-use Rattle.std.specs.Prelude.{◌≡◌, ◌⊎◌, ℕ, Bool, true, List, ◌++◌, map, Option, Some, None, if◌then◌else◌}
+use Rattle.std.specs.Prelude.{◌≡◌, ℕ, Bool, true, List, ◌++◌, map, Option, Some, None, if◌then◌else◌}
 use Rattle.std.specs.List.{flat_map}
 use Rattle.era_base.specs.declared.geometry.Geometry.{Geometry}
 use Rattle.era_base.specs.declared.disk.Disk.{Ghosts as DiskMembers}
 use Rattle.era_base.specs.declared.streams.Source.{Ghosts as SourceMembers}
 use Rattle.era_base.specs.CrashModel.{State}
-use Rattle.era_base.specs.Streams.{GivesFront}
 use Rattle.era_model.specs.declared.history.Happening.{Happening}
 use Rattle.era_model.specs.declared.command.Command.{Command}
 use Rattle.era_model.specs.Commands.{Round, round_of}
@@ -20,8 +19,8 @@ use Rattle.era_plan.specs.declared.round.LineKind.TheVariants.{NotYet}
 use Rattle.era_plan.specs.declared.round.PlanError.{PlanError}
 use Rattle.era_plan.specs.declared.round.PlanError.TheVariants.{Line as LineError, Source as SourceError, Memory as MemoryError}
 use Rattle.era_plan.specs.Kinds.{kind_text}
-use Rattle.era_top.specs.declared.status.Status.{Status}
-use Rattle.era_top.specs.declared.status.Status.TheVariants.{Done, Line, Memory, Source, Sink}
+use Rattle.era_tools.specs.declared.status.Status.{Status}
+use Rattle.era_tools.specs.declared.status.Status.TheVariants.{Done, Line, Memory, Source}
 use Rattle.era_top.specs.Runs.{ReadsAsJournal}
 
 -- The commands of all rounds, in order.
@@ -62,12 +61,6 @@ pub record IsSession (g : Geometry) (contents : List ℕ) (around : Around) (ses
   pub lists : ListsNameWritten g session.journal (joined session.rounds)
   pub counts : CountsAreWithin (λ _. around.disk_faults) (λ _. around.disk_faults') session.journal
   pub reads : around.tells ≡ true → contents ≡ around.disk.seen → ReadsAsJournal g session.journal around.disk'.seen
-
--- A text was given, and the run ends as it says; or the sink failed after a front of it.
-abbrev pub Prints : Option (List ℕ) → Option (List ℕ) → List ℕ → Status → Status → Type 0
-Prints given given' text ended result =
-    ((result ≡ ended) × ((before : List ℕ) → given ≡ Some before → given' ≡ Some (before ++ text)))
-    ⊎ ((result ≡ Sink) × ((before : List ℕ) → given ≡ Some before → GivesFront before text given'))
 
 -- The text of a session behind its first line.
 abbrev pub text_behind_open : Session → List ℕ

@@ -1,31 +1,22 @@
 -- The number that the program ends with.
-use Rattle.std.specs.Prelude.{◌≡◌, ◌⊎◌, ℕ, ◌<◌, ◌≤◌, List, All, Option, Some}
+use Rattle.std.specs.Prelude.{◌≡◌, ℕ, ◌<◌, ◌≤◌, List, All, Option, Some}
+use Rattle.era_base.specs.declared.disk.Disk.{Ghosts}
 use Rattle.era_base.specs.Faults.{Rose}
 use Rattle.era_base.specs.Geometry.{IsBlockSize, blocks_of}
 use Rattle.era_base.specs.declared.limits.TheConstants.{MOST_BLOCKS}
 use Rattle.era_line.specs.declared.table_line.TableLine.{TableLine}
 use Rattle.era_plan.specs.Stream.{AtEnd, stream_rounds}
-use Rattle.era_top.specs.declared.status.Status.{Status}
-use Rattle.era_top.specs.declared.status.Status.TheVariants.{Done, Usage, Line, Fault, Memory, Refused, Source, Sink}
-use Rattle.era_top.specs.Around.{DiskFacts, BayAround, StreamsAround}
+use Rattle.era_tools.specs.declared.status.Status.{Status}
+use Rattle.era_tools.specs.Around.{BayAround}
+use Rattle.era_tools.specs.Printing.{number_of}
+use Rattle.era_top.specs.Around.{StreamsAround}
 use Rattle.era_top.specs.Reports.{Reports}
 use Rattle.era_top.specs.Runs.{IsServedCommand}
 use Rattle.era_top.specs.Words.{IsServe}
 
--- The number of a status.
-abbrev pub number_of : Status → ℕ
-number_of Done = 0
-number_of Usage = 2
-number_of Line = 3
-number_of Fault = 4
-number_of Memory = 5
-number_of Refused = 6
-number_of Source = 7
-number_of Sink = 8
-
--- A number is one that the program ends with: 0, or 2 to 8.
+-- A number is one that the program ends with: 0 to 8.
 abbrev pub IsNumber : ℕ → Type 0
-IsNumber number = (number ≡ 0) ⊎ ((2 ≤ number) × (number ≤ 8))
+IsNumber number = number ≤ 8
 
 -- The number 8 comes exactly with a failure of the sink: its count of faults rose, and with any other number it is as before.
 pub record EndsBySink (before now number : ℕ) : Type 0 where
@@ -33,7 +24,7 @@ pub record EndsBySink (before now number : ℕ) : Type 0 where
   pub kept : (number ≡ 8 → ⊥) → now ≡ before
 
 -- A call went so, where the origin had these contents, and the program ends with the number of the status.
-pub record EndsAs {D : Type 0} (words : List (List ℕ)) (contents : List ℕ) (disks : DiskFacts D) (bay : BayAround D)
+pub record EndsAs {D : Type 0} (words : List (List ℕ)) (contents : List ℕ) (disks : Ghosts D) (bay : BayAround D)
     (streams : StreamsAround) (number : ℕ) : Type 0 where
   pub status : Status
   pub reports : Reports words contents disks bay streams status

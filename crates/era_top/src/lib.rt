@@ -3,21 +3,18 @@
 
 mod block_list;
 mod events;
-mod need;
-mod number;
 mod origin;
 mod outcome;
 mod progress;
 mod refusal;
-mod refuse;
 mod replies;
 mod round;
 mod run;
 mod served;
 mod session;
 mod session_lines;
-mod status;
+mod tool;
 mod top;
-mod words;
 
+pub use tool::era_tool;
 pub use top::era_top;

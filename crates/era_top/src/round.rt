@@ -16,10 +16,10 @@ use crate::progress::Progress;
 use crate::replies::give_replies;
 use crate::run::run;
 use crate::session_lines::{give_end, give_stop};
-use crate::status::Status;
 use era_base::{Disk, Failed, Geometry, Sink};
 use era_line::TextBuffer;
 use era_plan::{Command, PlanError};
+use era_tools::Status;
 use std::alloc::Global;
 
 /// How many events commands had together.

@@ -2,7 +2,8 @@
 
 ghost use Rattle.std.specs.Prelude.{◌≡◌, ◌+◌, ◌*◌, ◌<◌, ◌≤◌, ℕ, List};
 ghost use Rattle.era_model.specs.Marks.{no_marks};
-ghost use Rattle.era_top.specs.Rises.{HasRiseFor, HasSinkCause};
+ghost use Rattle.era_tools.specs.Printing.{HasSinkCause};
+ghost use Rattle.era_top.specs.Rises.{HasRiseFor};
 ghost use Rattle.era_top.specs.Endings.{Goes, GoesOn};
 ghost use Rattle.era_top.specs.Sessions.{end_status as status_at_end, plan_error_at, session_around};
 
@@ -10,10 +11,10 @@ use crate::progress::Progress;
 use crate::round::answer_round;
 use crate::served::first_unserved;
 use crate::session_lines::{give_end, give_open, give_stop};
-use crate::status::Status;
 use era_base::{Disk, Geometry, Sink, Source};
 use era_marks::SessionMarks;
 use era_plan::{LineError, LineKind, Lines, PlanError, next_round};
+use era_tools::Status;
 use std::alloc::Global;
 
 /// The status of a session whose stream was read to its end, where memory for a list was or wasn't refused.

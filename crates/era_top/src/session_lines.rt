@@ -6,15 +6,15 @@ ghost use Rattle.era_base.specs.Streams.{GivesTo};
 ghost use Rattle.era_line.specs.TextBuffer.{Adds};
 ghost use Rattle.era_model.specs.Transcript.{open_line, stop_line, end_line};
 ghost use Rattle.era_line.specs.Parts.{parts_text};
-ghost use Rattle.era_top.specs.Rises.{HasSinkCause};
+ghost use Rattle.era_tools.specs.Printing.{HasSinkCause, Prints};
 ghost use Rattle.era_top.specs.Gathered.{PrintsBehind};
-ghost use Rattle.era_top.specs.Sessions.{Prints, stop_of, status_of};
+ghost use Rattle.era_top.specs.Sessions.{stop_of, status_of};
 
-use crate::status::Status;
 use era_base::{Failed, Geometry, Sink};
 use era_line::Part::{Number, Text};
 use era_line::{Part, TextBuffer, give_parts};
 use era_plan::{PlanError, kind_text};
+use era_tools::Status;
 
 /// Gives the first line of a session: era 1 and the number of blocks.
 pub fn give_open<K: Sink>(sink: &mut K, geometry: &Geometry) -> Result<(), Failed>

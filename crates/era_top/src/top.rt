@@ -3,24 +3,23 @@
 ghost use Rattle.std.specs.Prelude.{◌≡◌, ◌⊎◌, ℕ, List, [], ◌∷◌, ◌++◌};
 ghost use Rattle.era_base.specs.Bay.{Loan, new_loan, KeepsSizes};
 ghost use Rattle.era_base.specs.Faults.{Rose};
-ghost use Rattle.era_top.specs.Around.{SomeCountRose, AllReturned, IsFaultless, disk_facts, bay_around, streams_around};
+ghost use Rattle.era_top.specs.Around.{SomeCountRose, AllReturned, IsFaultless, HasFaultCause, HasSourceCause, streams_around};
+ghost use Rattle.era_tools.specs.Around.{bay_around};
+ghost use Rattle.era_tools.specs.Printing.{HasSinkCause};
 ghost use Rattle.era_top.specs.Openings.{OpensAsAsked, HasServed};
-ghost use Rattle.era_top.specs.Reports.{Reports};
-ghost use Rattle.era_top.specs.Rises.{HasSinkCause};
+ghost use Rattle.era_top.specs.Reports.{Reports, ReportsSession, RunsJob};
 ghost use Rattle.era_top.specs.Top.{EndsAs, EndsBySink, IsNumber, IsServable};
 ghost use Rattle.era_top.specs.Exactly.{EndsExactly};
-ghost use Rattle.era_top.specs.Words.{texts_of, IsServe};
+ghost use Rattle.era_words.specs.Words.{texts_of};
 
-use crate::need::tell_need;
-use crate::number::number;
 use crate::origin::open_origin;
-use crate::refusal::Refusal;
-use crate::refuse::refuse;
+use crate::refusal::WordsRefusal;
 use crate::session::serve;
-use crate::status::Status;
-use crate::words::{Asked, read_asked};
+use crate::tool::{refuse_words, run_tool};
 use era_base::{Bay, Geometry, Pace, Sink, Source};
 use era_line::TableLine;
+use era_tools::{Refusal, Status, number, refuse};
+use era_words::{Job, WordsError, read_words};
 use std::alloc::Global;
 use std::sync::Wait;
 use std::thread::Threads;
@@ -28,7 +27,7 @@ use std::thread::Threads;
 /// Opens the origin of a table line.
 fn open<B: Bay>(line: &TableLine, bay: &mut B) -> Result<(Geometry, B::D), Refusal>
     ensures { OpensAsAsked line.now
-        (disk_facts B.D.Disk) (bay_around B.Bay bay.old bay.new)
+        B.D.Disk (bay_around B.Bay bay.old bay.new)
         result }
 {
     let geometry = match Geometry::new(line.length, line.block_sectors) {
@@ -60,7 +59,7 @@ fn serve_lent<S: Source, K: Sink, B: Bay>(
     ensures served { (contents : List ℕ) (before : List (Loan B.D))
         → B.loans bay.old ≡ before ++ new_loan disk ∷ []
         → HasServed geometry.now contents
-        (disk_facts B.D.Disk) (bay_around B.Bay bay.old bay.new)
+        B.D.Disk (bay_around B.Bay bay.old bay.new)
         (streams_around S.Source K.Sink source.old source.new sink.old sink.new)
         before disk result }
     ensures sizes { KeepsSizes (B.sizes bay.old) (B.sizes bay.new) }
@@ -79,20 +78,54 @@ fn run_serve<S: Source, K: Sink, B: Bay>(
     sink: &mut K,
     bay: &mut B,
 ) -> Status
-    ensures single_lane_session { (words : List (List ℕ)) (contents : List ℕ)
-        → IsServe words line.now → Reports words contents
-        (disk_facts B.D.Disk) (bay_around B.Bay bay.old bay.new)
+    ensures single_lane_session { (contents : List ℕ) → ReportsSession line.now contents
+        B.D.Disk (bay_around B.Bay bay.old bay.new)
         (streams_around S.Source K.Sink source.old source.new sink.old sink.new)
         result }
-    ensures fault { result ≡ Status.Fault → SomeCountRose
-        (disk_facts B.D.Disk) (bay_around B.Bay bay.old bay.new) }
-    ensures source { result ≡ Status.Source → Rose (S.faults source.old) (S.faults source.new) }
+    ensures fault { HasFaultCause B.D.Disk (bay_around B.Bay bay.old bay.new) result }
+    ensures source { HasSourceCause
+        (streams_around S.Source K.Sink source.old source.new sink.old sink.new) result }
     ensures sink { HasSinkCause (K.faults sink.old) (K.faults sink.new) result }
     ensures returned { AllReturned (bay_around B.Bay bay.old bay.new) }
 {
     match open(line, bay) {
         Ok((geometry, disk)) => serve_lent(alloc, &geometry, disk, source, sink, bay),
         Err(refusal) => refuse(sink, refusal),
+    }
+}
+
+/// Does a job, and tells how it ended.
+fn run_job<S: Source, K: Sink, B: Bay>(
+    alloc: Global,
+    job: &Job,
+    source: &mut S,
+    sink: &mut K,
+    bay: &mut B,
+) -> Status
+    ensures single_lane_session { (contents : List ℕ) → RunsJob contents
+        B.D.Disk (bay_around B.Bay bay.old bay.new)
+        (streams_around S.Source K.Sink source.old source.new sink.old sink.new)
+        job.now result }
+    ensures fault { HasFaultCause B.D.Disk (bay_around B.Bay bay.old bay.new) result }
+    ensures source { HasSourceCause
+        (streams_around S.Source K.Sink source.old source.new sink.old sink.new) result }
+    ensures sink { HasSinkCause (K.faults sink.old) (K.faults sink.new) result }
+    ensures returned { AllReturned (bay_around B.Bay bay.old bay.new) }
+{
+    match job {
+        Job::Serve {
+            line,
+            stripes,
+            digest,
+        } => {
+            if *stripes == 4 && *digest == 0 {
+                run_serve(alloc, line, source, sink, bay)
+            } else {
+                refuse_words(sink, WordsRefusal::NotYet)
+            }
+        }
+        Job::Load { .. } => refuse_words(sink, WordsRefusal::NotYet),
+        _ => run_tool(alloc, job, source, sink, bay),
     }
 }
 
@@ -105,24 +138,19 @@ pub fn run_words<S: Source, K: Sink, B: Bay>(
     bay: &mut B,
 ) -> Status
     ensures single_lane_session { (contents : List ℕ) → Reports (texts_of words.now) contents
-        (disk_facts B.D.Disk) (bay_around B.Bay bay.old bay.new)
+        B.D.Disk (bay_around B.Bay bay.old bay.new)
         (streams_around S.Source K.Sink source.old source.new sink.old sink.new)
         result }
-    ensures fault { result ≡ Status.Fault → SomeCountRose
-        (disk_facts B.D.Disk) (bay_around B.Bay bay.old bay.new) }
-    ensures source { result ≡ Status.Source → Rose (S.faults source.old) (S.faults source.new) }
+    ensures fault { HasFaultCause B.D.Disk (bay_around B.Bay bay.old bay.new) result }
+    ensures source { HasSourceCause
+        (streams_around S.Source K.Sink source.old source.new sink.old sink.new) result }
     ensures sink { HasSinkCause (K.faults sink.old) (K.faults sink.new) result }
     ensures returned { AllReturned (bay_around B.Bay bay.old bay.new) }
 {
-    match read_asked(alloc, words) {
-        Ok(Asked::Session(line)) => run_serve(alloc, &line, source, sink, bay),
-        Ok(
-            Asked::Need {
-                sectors,
-                block_sectors,
-            },
-        ) => tell_need(sink, sectors, block_sectors),
-        Err(refusal) => refuse(sink, refusal),
+    match read_words(alloc, words) {
+        Ok(job) => run_job(alloc, &job, source, sink, bay),
+        Err(WordsError::Usage) => refuse_words(sink, WordsRefusal::NoCommand),
+        Err(WordsError::Memory) => refuse_words(sink, WordsRefusal::NoRoom),
     }
 }
 
@@ -137,19 +165,19 @@ pub fn era_top<R: Threads + Wait + Sync, S: Source, K: Sink, B: Bay, P: Pace + S
     pace: &P,
 ) -> u8
     ensures single_lane_session { (contents : List ℕ) → EndsAs (texts_of words.now) contents
-        (disk_facts B.D.Disk) (bay_around B.Bay bay.old bay.new)
+        B.D.Disk (bay_around B.Bay bay.old bay.new)
         (streams_around S.Source K.Sink source.old source.new sink.old sink.new)
         result }
     ensures number { IsNumber result }
     ensures fault { result ≡ 4 → SomeCountRose
-        (disk_facts B.D.Disk) (bay_around B.Bay bay.old bay.new) }
+        B.D.Disk (bay_around B.Bay bay.old bay.new) }
     ensures source { result ≡ 7 → Rose (S.faults source.old) (S.faults source.new) }
     ensures sink { EndsBySink (K.faults sink.old) (K.faults sink.new) result }
     ensures returned { AllReturned (bay_around B.Bay bay.old bay.new) }
     ensures exact { EndsExactly (texts_of words.now) (B.sizes bay.new) result }
     ensures faultless { IsServable (texts_of words.now) (B.sizes bay.new) (S.left source.old)
         → IsFaultless
-        (disk_facts B.D.Disk) (bay_around B.Bay bay.old bay.new)
+        B.D.Disk (bay_around B.Bay bay.old bay.new)
         (streams_around S.Source K.Sink source.old source.new sink.old sink.new)
         → (result ≡ 0) ⊎ (result ≡ 5) }
 {

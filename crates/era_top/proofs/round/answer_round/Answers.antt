@@ -1,6 +1,6 @@
 use Rattle.std.proofs.Common.{◌+◌, refl, sym, ◌∙◌, inl, inr, arith}
 use Rattle.era_model.specs.Transcript.{end_line}
-use Rattle.era_top.specs.declared.status.Status.TheVariants.{Fault}
+use Rattle.era_tools.specs.declared.status.Status.TheVariants.{Fault}
 use Rattle.era_top.specs.Outcomes.{answers_text, total_events}
 use Rattle.era_top.proofs.SessionSteps.{prints-behind, total-few}
 use Rattle.era_top.proofs.round.answer_round.Goals as goal

@@ -1,6 +1,6 @@
 use Rattle.std.proofs.Common.{length, sym, subst}
 use Rattle.era_base.specs.Bay.{EndsLoan, IsOut}
-use Rattle.era_top.proofs.LastLoan.{is_out-last, ends_last}
+use Rattle.era_tools.proofs.LastLoan.{is_out-last, ends_last}
 use Rattle.era_top.proofs.top.serve_lent.Goals as goal
 
 -- the disk is the one that was lent last

@@ -1,0 +1,333 @@
+-- How calls of tools end: by a fault with a count that rose, with their disks put back, and by the statuses of their jobs.
+use Rattle.std.proofs.Common.{◌≡◌, ◌⊎◌, inl, inr, ℕ, Bool, List, [], ◌∷◌, ◌++◌, length, refl, ap, sym, ◌∙◌, subst, arith}
+use Rattle.std.specs.Prelude.{Option, Some, None, slice_get}
+use Rattle.std.proofs.lemmas.Option.{slice_get_within}
+use Rattle.era_base.specs.Bay.{Loan, new_loan, ended_loan}
+use Rattle.era_base.specs.Faults.{Rose}
+use Rattle.era_base.specs.declared.disk.Disk.{Ghosts}
+use Rattle.era_check.specs.Checks.{refusal_in}
+use Rattle.era_check.specs.declared.checked.Checked.{Checked}
+use Rattle.era_check.specs.declared.checked.Checked.TheVariants as found
+use Rattle.era_meta.specs.declared.refusal.MetaError.{MetaError}
+use Rattle.era_meta.specs.declared.refusal.MetaError.TheVariants as error
+use Rattle.era_meta.specs.Meaning.{Meaning}
+use Rattle.era_model.specs.Marks.{BlockMarks}
+use Rattle.era_tools.specs.Around.{BayAround}
+use Rattle.era_tools.specs.CheckTool.{RunsCheck, checked_status}
+use Rattle.era_tools.specs.ClosedImages.{HasTried, IsNotLent, IsUnopened, RunsOver}
+use Rattle.era_tools.specs.DumpTool.{EndsDump}
+use Rattle.era_tools.specs.ListTool.{Listed, Blocks, NoSnapshot, NoMemory, TellsList, listed_status, listed_text}
+use Rattle.era_tools.specs.Needs.{Needed, Blocks as NeededBlocks, NoGeometry as NoneNeeded, needed_status}
+use Rattle.era_tools.specs.Printing.{Prints}
+use Rattle.era_tools.specs.Refusals.{refusal_status, refusal_text}
+use Rattle.era_tools.specs.declared.refusal.Refusal.{Refusal}
+use Rattle.era_tools.specs.declared.refusal.Refusal.TheVariants.{NoGeometry, SameDevice, OriginSmall, Metadata, NoSnap, BayFault, DataFault, NoRoom}
+use Rattle.era_tools.specs.declared.status.Status.{Status}
+use Rattle.era_tools.specs.declared.status.Status.TheVariants.{Done, Damage, Usage, Line, Fault, Memory, Refused, Source, Sink}
+use Rattle.era_tools.proofs.LastLoan.{slice_get-last, slice_get-from_last}
+use Rattle.era_words.specs.declared.job.Job.{Job}
+use Rattle.era_words.specs.declared.job.Job.TheVariants as job
+use Rattle.era_top.specs.declared.refusal.WordsRefusal.{WordsRefusal}
+use Rattle.era_top.specs.declared.refusal.WordsRefusal.TheVariants.{NoCommand, NotYet, NoRoom as NoWordsRoom}
+use Rattle.era_top.proofs.Causes.{printed-fault}
+use Rattle.era_top.specs.Around.{AllReturned, HasFaultCause, HasSourceCause, SomeCountRose, StreamsAround}
+use Rattle.era_top.specs.Refusals.{words_status, words_text}
+use Rattle.era_top.specs.Tools.{RefusesWords, RunsTool}
+use Rattle.era_top.specs.Words.{IsTool, IsUnserved}
+
+-- a run ended as its text says, or the sink failed
+pub printed-ends : (given given' : Option (List ℕ)) (text : List ℕ) (ended result : Status) → Prints given given' text ended result → (result ≡ ended) ⊎ (result ≡ Sink)
+printed-ends given given' text ended result (inl all) = inl all.0
+printed-ends given given' text ended result (inr some) = inr some.0
+
+-- no disk was lent
+pub none-returned : (D : Type 0) (bay : BayAround D) → bay.loans' ≡ bay.loans → AllReturned bay
+none-returned D bay same = λ index loan began found.
+    let within = slice_get_within bay.loans index loan (subst (λ (loans : List (Loan D)). slice_get loans index ≡ Some loan) same found) in
+    absurd (omega arith)
+
+-- the one disk that was lent was put back
+pub one-returned : (D : Type 0) (bay : BayAround D) (lent back : D) → bay.loans' ≡ bay.loans ++ ended_loan (new_loan lent) back ∷ [] → AllReturned bay
+one-returned D bay lent back loans = λ index loan began found.
+    let ended : Loan D = ended_loan (new_loan lent) back in
+    let same : loan ≡ ended = slice_get-from_last bay.loans ended index loan began
+    (subst (λ (loans : List (Loan D)). slice_get loans index ≡ Some loan) loans found) in
+    (back, ap (λ (loan : Loan D). loan.back) same)
+
+-- and its count rose
+pub one-rose : (D : Type 0) (disk : Ghosts D) (bay : BayAround D) (lent back : D) → bay.loans' ≡ bay.loans ++ ended_loan (new_loan lent) back ∷ []
+    → Rose (disk.faults lent) (disk.faults back) → SomeCountRose disk bay
+one-rose D disk bay lent back loans rose = inr (record {
+  loan = ended_loan (new_loan lent) back;
+  back = back;
+  came_back = record {
+    index = length bay.loans;
+    began = omega arith;
+    found = subst (λ (loans : List (Loan D)). slice_get loans (length bay.loans) ≡ Some (ended_loan (new_loan lent) back)) (sym loans)
+        (slice_get-last bay.loans (ended_loan (new_loan lent) back));
+    ended = refl;
+  };
+  rose = rose;
+})
+
+-- A status of a run that reads words or a text that is refused, or a source that failed.
+abbrev pub IsOfInput : Status → Type 0
+IsOfInput Usage = Unit {0}
+IsOfInput Line = Unit {0}
+IsOfInput Source = Unit {0}
+IsOfInput status = ⊥
+
+-- what is so of the status of a text is so of that of its run, but for the sink's failure
+ends-so : (given given' : Option (List ℕ)) (text : List ℕ) (ended result : Status) → Prints given given' text ended result → (IsOfInput ended → ⊥) → IsOfInput result → ⊥
+ends-so given given' text ended result printed never is = elim (printed-ends given given' text ended result printed) [
+  | inl same ↦ never (subst IsOfInput same is)
+  | inr failed ↦ subst IsOfInput failed is
+]
+
+needed-so : (told : Needed) → IsOfInput (needed_status told) → ⊥
+needed-so (NeededBlocks count) is = is
+needed-so (NoneNeeded error) is = is
+
+listed-so : (told : Listed) → IsOfInput (listed_status told) → ⊥
+listed-so (Blocks runs) is = is
+listed-so NoSnapshot is = is
+listed-so NoMemory is = is
+
+checked-so : (finding : Checked) → IsOfInput (checked_status finding) → ⊥
+checked-so (found.Clean era used) is = is
+checked-so (found.Damage kind block) is = is
+checked-so found.Unformatted is = is
+checked-so (found.MetaSmall have need) is = is
+checked-so (found.Fault count) is = is
+checked-so found.Memory is = is
+
+metadata-so : (refused : MetaError) → IsOfInput (refusal_status (Metadata refused)) → ⊥
+metadata-so (error.MetaSmall have need) is = is
+metadata-so (error.Fault count) is = is
+metadata-so error.Unformatted is = is
+metadata-so (error.Damaged kind block) is = is
+metadata-so (error.WrongGeometry kept asked) is = is
+metadata-so error.EraEnd is = is
+metadata-so (error.SequenceEnd number) is = is
+metadata-so error.Memory is = is
+
+refusal-so : (refusal : Refusal) → IsOfInput (refusal_status refusal) → ⊥
+refusal-so (NoGeometry error size) is = is
+refusal-so SameDevice is = is
+refusal-so (OriginSmall have need) is = is
+refusal-so (Metadata refused) is = metadata-so refused is
+refusal-so NoSnap is = is
+refusal-so (BayFault count) is = is
+refusal-so (DataFault count) is = is
+refusal-so NoRoom is = is
+
+-- a refusal isn't the source's
+pub refused-no_source : (streams : StreamsAround) (result : Status) (refusal : Refusal) → Prints streams.given streams.given' (refusal_text refusal) (refusal_status refusal) result
+    → HasSourceCause streams result
+refused-no_source streams result refusal printed = λ is.
+    absurd (ends-so streams.given streams.given' (refusal_text refusal) (refusal_status refusal) result printed (refusal-so refusal) (subst IsOfInput (sym is) tt))
+
+module _ (D : Type 0) (disk : Ghosts D) (bay : BayAround D) where
+  -- a device that was lent and tried
+  tried-returned : (name : List ℕ) (lent : D) (ended : Option MetaError) → HasTried disk bay name lent ended → AllReturned bay
+  tried-returned name lent ended tried = one-returned D bay lent tried.back tried.loans
+
+  tried-fault : (name : List ℕ) (lent : D) (count : ℕ) → HasTried disk bay name lent (Some (error.Fault count)) → SomeCountRose disk bay
+  tried-fault name lent count tried = one-rose D disk bay lent tried.back tried.loans tried.tried.cause.1
+
+  not_lent-returned : (refusal : Refusal) → IsNotLent bay refusal → AllReturned bay
+  not_lent-returned (BayFault count) cause = none-returned D bay cause.0.loans
+  not_lent-returned NoRoom cause = none-returned D bay cause.0.loans
+  not_lent-returned (NoGeometry error size) cause = absurd cause
+  not_lent-returned SameDevice cause = absurd cause
+  not_lent-returned (OriginSmall have need) cause = absurd cause
+  not_lent-returned (Metadata refused) cause = absurd cause
+  not_lent-returned NoSnap cause = absurd cause
+  not_lent-returned (DataFault count) cause = absurd cause
+
+  not_lent-fault : (refusal : Refusal) → IsNotLent bay refusal → refusal_status refusal ≡ Fault → SomeCountRose disk bay
+  not_lent-fault (BayFault count) cause is = inl cause.2
+  not_lent-fault NoRoom cause is = cc
+  not_lent-fault (NoGeometry error size) cause is = absurd cause
+  not_lent-fault SameDevice cause is = absurd cause
+  not_lent-fault (OriginSmall have need) cause is = absurd cause
+  not_lent-fault (Metadata refused) cause is = absurd cause
+  not_lent-fault NoSnap cause is = absurd cause
+  not_lent-fault (DataFault count) cause is = absurd cause
+
+  unopened-returned : (name : List ℕ) (refusal : Refusal) → IsUnopened disk bay name refusal → AllReturned bay
+  unopened-returned name (Metadata refused) cause = tried-returned name cause.0 (Some refused) cause.1
+  unopened-returned name (BayFault count) cause = not_lent-returned (BayFault count) cause
+  unopened-returned name NoRoom cause = not_lent-returned NoRoom cause
+  unopened-returned name (NoGeometry error size) cause = absurd cause
+  unopened-returned name SameDevice cause = absurd cause
+  unopened-returned name (OriginSmall have need) cause = absurd cause
+  unopened-returned name NoSnap cause = absurd cause
+  unopened-returned name (DataFault count) cause = absurd cause
+
+  refused-fault : (name : List ℕ) (lent : D) (refused : MetaError) → HasTried disk bay name lent (Some refused) → refusal_status (Metadata refused) ≡ Fault → SomeCountRose disk bay
+  refused-fault name lent (error.Fault count) tried is = tried-fault name lent count tried
+  refused-fault name lent (error.MetaSmall have need) tried is = cc
+  refused-fault name lent error.Unformatted tried is = cc
+  refused-fault name lent (error.Damaged kind block) tried is = cc
+  refused-fault name lent (error.WrongGeometry kept asked) tried is = cc
+  refused-fault name lent error.EraEnd tried is = cc
+  refused-fault name lent (error.SequenceEnd number) tried is = cc
+  refused-fault name lent error.Memory tried is = cc
+
+  unopened-fault : (name : List ℕ) (refusal : Refusal) → IsUnopened disk bay name refusal → refusal_status refusal ≡ Fault → SomeCountRose disk bay
+  unopened-fault name (Metadata refused) cause is = refused-fault name cause.0 refused cause.1 is
+  unopened-fault name (BayFault count) cause is = not_lent-fault (BayFault count) cause is
+  unopened-fault name NoRoom cause is = cc
+  unopened-fault name (NoGeometry error size) cause is = absurd cause
+  unopened-fault name SameDevice cause is = absurd cause
+  unopened-fault name (OriginSmall have need) cause is = absurd cause
+  unopened-fault name NoSnap cause is = absurd cause
+  unopened-fault name (DataFault count) cause is = absurd cause
+
+  checked-fault : (name : List ℕ) (lent : D) (finding : Checked) → HasTried disk bay name lent (refusal_in finding) → checked_status finding ≡ Fault → SomeCountRose disk bay
+  checked-fault name lent (found.Fault count) tried is = tried-fault name lent count tried
+  checked-fault name lent (found.Clean era used) tried is = cc
+  checked-fault name lent (found.Damage kind block) tried is = cc
+  checked-fault name lent found.Unformatted tried is = cc
+  checked-fault name lent (found.MetaSmall have need) tried is = cc
+  checked-fault name lent found.Memory tried is = cc
+
+  -- a check
+  check-returned : (name : List ℕ) (given given' : Option (List ℕ)) (result : Status) → RunsCheck disk bay name given given' result → AllReturned bay
+  check-returned name given given' result (inl checks) = tried-returned name checks.lent (refusal_in checks.finding) checks.tried
+  check-returned name given given' result (inr tells) = not_lent-returned tells.refusal tells.cause
+
+  check-fault : (name : List ℕ) (given given' : Option (List ℕ)) (result : Status) → RunsCheck disk bay name given given' result → HasFaultCause disk bay result
+  check-fault name given given' result (inl checks) = λ is.
+      checked-fault name checks.lent checks.finding checks.tried (printed-fault given given' _ (checked_status checks.finding) result checks.printed is)
+  check-fault name given given' result (inr tells) = λ is.
+      not_lent-fault tells.refusal tells.cause (printed-fault given given' _ (refusal_status tells.refusal) result tells.printed is)
+
+  check-so : (name : List ℕ) (given given' : Option (List ℕ)) (result : Status) → RunsCheck disk bay name given given' result → IsOfInput result → ⊥
+  check-so name given given' result (inl checks) is = ends-so given given' _ (checked_status checks.finding) result checks.printed (checked-so checks.finding) is
+  check-so name given given' result (inr tells) is = ends-so given given' _ (refusal_status tells.refusal) result tells.printed (refusal-so tells.refusal) is
+
+  -- a tool over what an image stands for
+  over-returned : (name : List ℕ) (given given' : Option (List ℕ)) (result : Status) (Tells : Meaning → Type 0) → RunsOver disk bay name given given' result Tells → AllReturned bay
+  over-returned name given given' result Tells (inl tells) = tried-returned name tells.lent None tells.tried
+  over-returned name given given' result Tells (inr tells) = unopened-returned name tells.refusal tells.cause
+
+  over-fault : (name : List ℕ) (given given' : Option (List ℕ)) (result : Status) (Tells : Meaning → Type 0) → ((meaning : Meaning) → Tells meaning → result ≡ Fault → ⊥)
+      → RunsOver disk bay name given given' result Tells → HasFaultCause disk bay result
+  over-fault name given given' result Tells never (inl tells) = λ is. absurd (never tells.meaning tells.told is)
+  over-fault name given given' result Tells never (inr tells) = λ is.
+      unopened-fault name tells.refusal tells.cause (printed-fault given given' _ (refusal_status tells.refusal) result tells.printed is)
+
+  over-so : (name : List ℕ) (given given' : Option (List ℕ)) (result : Status) (Tells : Meaning → Type 0) → ((meaning : Meaning) → Tells meaning → IsOfInput result → ⊥)
+      → RunsOver disk bay name given given' result Tells → IsOfInput result → ⊥
+  over-so name given given' result Tells never (inl tells) is = never tells.meaning tells.told is
+  over-so name given given' result Tells never (inr tells) is = ends-so given given' _ (refusal_status tells.refusal) result tells.printed (refusal-so tells.refusal) is
+
+-- what a list, a dump and a need tell is no fault
+listed-fault : (told : Listed) → listed_status told ≡ Fault → ⊥
+listed-fault (Blocks runs) is = cc
+listed-fault NoSnapshot is = cc
+listed-fault NoMemory is = cc
+
+needed-fault : (told : Needed) → needed_status told ≡ Fault → ⊥
+needed-fault (NeededBlocks count) is = cc
+needed-fault (NoneNeeded error) is = cc
+
+words-fault : (refusal : WordsRefusal) → words_status refusal ≡ Fault → ⊥
+words-fault NoCommand is = cc
+words-fault NotYet is = cc
+words-fault NoWordsRoom is = cc
+
+words-source : (refusal : WordsRefusal) → words_status refusal ≡ Source → ⊥
+words-source NoCommand is = cc
+words-source NotYet is = cc
+words-source NoWordsRoom is = cc
+
+list-fault : (m : BlockMarks) (held : Option BlockMarks) (since : ℕ) (snap : Bool) (given given' : Option (List ℕ)) (result : Status)
+    → TellsList m held since snap given given' result → result ≡ Fault → ⊥
+list-fault m held since snap given given' result tells is =
+    listed-fault tells.told (printed-fault given given' (listed_text tells.told) (listed_status tells.told) result tells.printed is)
+
+list-so : (m : BlockMarks) (held : Option BlockMarks) (since : ℕ) (snap : Bool) (given given' : Option (List ℕ)) (result : Status)
+    → TellsList m held since snap given given' result → IsOfInput result → ⊥
+list-so m held since snap given given' result tells is = ends-so given given' (listed_text tells.told) (listed_status tells.told) result tells.printed (listed-so tells.told) is
+
+dump-fault : (result : Status) → EndsDump result → result ≡ Fault → ⊥
+dump-fault result (inl done) is = let e : Done ≡ Fault = sym done ∙ is in cc
+dump-fault result (inr (inl lacked)) is = let e : Memory ≡ Fault = sym lacked ∙ is in cc
+dump-fault result (inr (inr failed)) is = let e : Sink ≡ Fault = sym failed ∙ is in cc
+
+dump-so : (result : Status) → EndsDump result → IsOfInput result → ⊥
+dump-so result (inl done) is = subst IsOfInput done is
+dump-so result (inr (inl lacked)) is = subst IsOfInput lacked is
+dump-so result (inr (inr failed)) is = subst IsOfInput failed is
+
+module _ (D : Type 0) (disk : Ghosts D) (bay : BayAround D) (streams : StreamsAround) (result : Status) where
+  -- words that are refused
+  pub words-no_fault : (refusal : WordsRefusal) → RefusesWords bay streams refusal result → HasFaultCause disk bay result
+  words-no_fault refusal refuses = λ is.
+      absurd (words-fault refusal (printed-fault streams.given streams.given' (words_text refusal) (words_status refusal) result refuses.printed is))
+
+  pub words-no_source : (refusal : WordsRefusal) → RefusesWords bay streams refusal result → HasSourceCause streams result
+  words-no_source refusal refuses = λ is. elim (printed-ends streams.given streams.given' (words_text refusal) (words_status refusal) result refuses.printed) [
+    | inl same ↦ absurd (words-source refusal (sym same ∙ is))
+    | inr failed ↦ let e : Sink ≡ Source = sym failed ∙ is in absurd (cc)
+  ]
+
+  pub words-returned : (refusal : WordsRefusal) → RefusesWords bay streams refusal result → AllReturned bay
+  words-returned refusal refuses = none-returned D bay refuses.left.bay_left.loans
+
+  -- a tool's fault is of the bay, or of the disk that was lent
+  pub tool-fault : (job : Job) → RunsTool disk bay streams job result → HasFaultCause disk bay result
+  tool-fault (job.Need sectors size) ran = λ is.
+      absurd (needed-fault ran.1.told (printed-fault streams.given streams.given' _ (needed_status ran.1.told) result ran.1.printed is))
+  tool-fault (job.Check meta) ran = check-fault D disk bay meta streams.given streams.given' result ran.1
+  tool-fault (job.Invalidate meta since snap) ran =
+      over-fault D disk bay meta streams.given streams.given' result _ (λ meaning. list-fault meaning.marks meaning.held since snap streams.given streams.given' result) ran.1
+  tool-fault (job.Dump meta logical) ran = over-fault D disk bay meta streams.given streams.given' result _ (λ meaning prints. dump-fault result prints.ends) ran.1
+  tool-fault (job.Restore meta) ran = words-no_fault NotYet ran
+  tool-fault (job.Backup meta origin since) ran = words-no_fault NotYet ran
+  tool-fault (job.Apply origin) ran = words-no_fault NotYet ran
+  tool-fault (job.Serve line stripes digest) ran = words-no_fault NoCommand ran
+  tool-fault (job.Load line seed stripes) ran = words-no_fault NoCommand ran
+
+  -- each disk was put back
+  pub tool-returned : (job : Job) → RunsTool disk bay streams job result → AllReturned bay
+  tool-returned (job.Need sectors size) ran = none-returned D bay ran.0.bay_left.loans
+  tool-returned (job.Check meta) ran = check-returned D disk bay meta streams.given streams.given' result ran.1
+  tool-returned (job.Invalidate meta since snap) ran = over-returned D disk bay meta streams.given streams.given' result _ ran.1
+  tool-returned (job.Dump meta logical) ran = over-returned D disk bay meta streams.given streams.given' result _ ran.1
+  tool-returned (job.Restore meta) ran = words-returned NotYet ran
+  tool-returned (job.Backup meta origin since) ran = words-returned NotYet ran
+  tool-returned (job.Apply origin) ran = words-returned NotYet ran
+  tool-returned (job.Serve line stripes digest) ran = words-returned NoCommand ran
+  tool-returned (job.Load line seed stripes) ran = words-returned NoCommand ran
+
+  -- a tool that is served and reads no input ends by no status of it
+  pub tool-so : (job : Job) → IsTool job → (IsUnserved job → ⊥) → RunsTool disk bay streams job result → IsOfInput result → ⊥
+  tool-so (job.Need sectors size) tool served ran is = ends-so streams.given streams.given' _ (needed_status ran.1.told) result ran.1.printed (needed-so ran.1.told) is
+  tool-so (job.Check meta) tool served ran is = check-so D disk bay meta streams.given streams.given' result ran.1 is
+  tool-so (job.Invalidate meta since snap) tool served ran is =
+      over-so D disk bay meta streams.given streams.given' result _ (λ meaning. list-so meaning.marks meaning.held since snap streams.given streams.given' result) ran.1 is
+  tool-so (job.Dump meta logical) tool served ran is = over-so D disk bay meta streams.given streams.given' result _ (λ meaning prints. dump-so result prints.ends) ran.1 is
+  tool-so (job.Restore meta) tool served ran is = served tt
+  tool-so (job.Backup meta origin since) tool served ran is = served tt
+  tool-so (job.Apply origin) tool served ran is = served tt
+  tool-so (job.Serve line stripes digest) tool served ran is = tool
+  tool-so (job.Load line seed stripes) tool served ran is = tool
+
+  -- so the source is never the cause
+  of-source : result ≡ Source → IsOfInput result
+  of-source is = subst IsOfInput (sym is) tt
+
+  pub tool-source : (job : Job) → RunsTool disk bay streams job result → HasSourceCause streams result
+  tool-source (job.Need sectors size) ran = λ is. absurd (tool-so (job.Need sectors size) tt (λ no. no) ran (of-source is))
+  tool-source (job.Check meta) ran = λ is. absurd (tool-so (job.Check meta) tt (λ no. no) ran (of-source is))
+  tool-source (job.Invalidate meta since snap) ran = λ is. absurd (tool-so (job.Invalidate meta since snap) tt (λ no. no) ran (of-source is))
+  tool-source (job.Dump meta logical) ran = λ is. absurd (tool-so (job.Dump meta logical) tt (λ no. no) ran (of-source is))
+  tool-source (job.Restore meta) ran = words-no_source NotYet ran
+  tool-source (job.Backup meta origin since) ran = words-no_source NotYet ran
+  tool-source (job.Apply origin) ran = words-no_source NotYet ran
+  tool-source (job.Serve line stripes digest) ran = words-no_source NoCommand ran
+  tool-source (job.Load line seed stripes) ran = words-no_source NoCommand ran
