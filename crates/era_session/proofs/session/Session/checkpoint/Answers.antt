@@ -1,0 +1,65 @@
+use Rattle.std.proofs.Common.{◌≡◌, ℕ, ◌+◌, ◌≤◌, List, ◌++◌, length, refl, sym, ap, ◌∙◌, subst, arith}
+use Rattle.std.proofs.lemmas.List.{length-append}
+use Rattle.era_gate.specs.Passes.{no_write}
+use Rattle.era_session.specs.AtStripes.{IsKeeperAdmitted}
+use Rattle.era_session.specs.Receipts.{PassDrew}
+use Rattle.era_session.specs.Sessions.{SamePlan, SameSession}
+use Rattle.era_session.proofs.AtStripes.{session-then}
+use Rattle.era_session.proofs.CheckpointEnds.{end-drew}
+use Rattle.era_session.proofs.KeeperAlone.{admitted-cause, admitted-same, admitted-stands, alone-fits, alone-same, alone-stands}
+use Rattle.era_session.proofs.Receipts.{drew-both, keeper-drew}
+use Rattle.era_session.proofs.session.Session.checkpoint.Goals as goal
+
+pub returns-clause-fits : goal.returns-clause-fits
+returns-clause-fits g c =
+    let settled = c.settle_all.new.self in
+    let admitted : IsKeeperAdmitted g.D.Disk settled.keeper c.admit.new.self = record { view = c.admit.ensures.view; meta = c.admit.ensures.same.0; seat = c.admit.ensures.same.1; notes = c.admit.ensures.same.2 } in
+    let ends = end-drew g.D.Disk c.args.id c.checkpoint.result c.admit.new.self c.checkpoint.new.self settled.pass c.checkpoint.new.pass c.checkpoint.ensures.did in
+    alone-fits g.D.Disk (length ends.end) no_write settled _ c.settle_all.ensures.fits
+    (record { gate = refl; geometry = refl; each = refl; seats = refl; parts = refl }) refl c.checkpoint.ensures.fits
+    (admitted-same g.D.Disk settled.keeper c.admit.new.self c.checkpoint.new.self admitted c.checkpoint.ensures.same) ends.drew.keeps
+
+pub returns-clause-stands : goal.returns-clause-stands
+returns-clause-stands g c = λ opening stands.
+    let settled = c.settle_all.new.self in
+    let between = c.settle_all.ensures.stands opening stands in
+    let admitted : IsKeeperAdmitted g.D.Disk settled.keeper c.admit.new.self = record { view = c.admit.ensures.view; meta = c.admit.ensures.same.0; seat = c.admit.ensures.same.1; notes = c.admit.ensures.same.2 } in
+    alone-stands g.D.Disk opening settled _ between (record { gate = refl; geometry = refl; each = refl; seats = refl; parts = refl }) refl
+    (c.checkpoint.ensures.stands opening (admitted-stands g.D.Disk opening settled.keeper c.admit.new.self admitted between.keeper))
+
+pub returns-clause-did : goal.returns-clause-did
+returns-clause-did g c =
+    let settled = c.settle_all.new.self in
+    let admitted : IsKeeperAdmitted g.D.Disk settled.keeper c.admit.new.self = record { view = c.admit.ensures.view; meta = c.admit.ensures.same.0; seat = c.admit.ensures.same.1; notes = c.admit.ensures.same.2 } in
+    let ends = end-drew g.D.Disk c.args.id c.checkpoint.result c.admit.new.self c.checkpoint.new.self settled.pass c.checkpoint.new.pass c.checkpoint.ensures.did in
+    record {
+      settled = settled;
+      settling = c.settle_all.ensures.did;
+      keeper = record {
+        before = c.admit.new.self;
+        admitted = admitted;
+        did = c.checkpoint.ensures.did;
+        stripes = refl;
+        plan = record { gate = refl; geometry = refl; each = refl; seats = refl; parts = refl };
+        same = admitted-same g.D.Disk settled.keeper c.admit.new.self c.checkpoint.new.self admitted c.checkpoint.ensures.same;
+        cause = admitted-cause g.D.Disk settled.keeper c.admit.new.self (g.D.Disk.faults c.checkpoint.new.self.meta.slots.disk) c.checkpoint.result admitted c.checkpoint.ensures.cause;
+      };
+      end = ends.end;
+      ends = ends.ends;
+      drew = drew-both c.settle_all.ensures.did.events ends.end no_write no_write no_write c.args.self.now.pass settled.pass c.checkpoint.new.pass (λ id none. (none, none))
+          c.settle_all.ensures.did.drew (keeper-drew ends.end c.admit.new.self c.checkpoint.new.self settled.pass c.checkpoint.new.pass ends.drew);
+    }
+
+pub returns-clause-keeps : goal.returns-clause-keeps
+returns-clause-keeps g c =
+    let settled = c.settle_all.new.self in
+    let did = c.settle_all.ensures.did in
+    let shared = c.requires.may.fits.shared in
+    let ends = end-drew g.D.Disk c.args.id c.checkpoint.result c.admit.new.self c.checkpoint.new.self settled.pass c.checkpoint.new.pass c.checkpoint.ensures.did in
+    let drew = drew-both did.events ends.end no_write no_write no_write c.args.self.now.pass settled.pass c.checkpoint.new.pass (λ id none. (none, none))
+    did.drew (keeper-drew ends.end c.admit.new.self c.checkpoint.new.self settled.pass c.checkpoint.new.pass ends.drew) in
+    record {
+      drawn = length (did.events ++ ends.end);
+      few = rw (length-append did.events ends.end) (omega (arith, did.few, ends.few, shared.few, shared.stripes));
+      keeps = drew.keeps;
+    }
