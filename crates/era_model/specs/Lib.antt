@@ -14,6 +14,7 @@ pub mod History
 pub mod Marking
 pub mod Changed
 -- Commands of a stream: the events that each may have, their order, and the text of a session.
+pub mod Tasks
 pub mod Commands
 pub mod CommandEvents
 pub mod SessionRun

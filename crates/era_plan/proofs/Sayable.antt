@@ -6,7 +6,7 @@ use Rattle.hex.specs.Hex.{decode_of}
 use Rattle.hex.specs.declared.error.FromHexError.{FromHexError}
 use Rattle.era_line.specs.Words.{words_of}
 use Rattle.era_model.specs.declared.command.Request.{Request}
-use Rattle.era_plan.specs.Commands.{IsPayload}
+use Rattle.era_model.specs.Tasks.{IsPayload}
 use Rattle.era_plan.specs.Forms.{bytes_of, is_payload, line_says, list_says, payload_or_none, read_says, request_of, request_says, with_bytes, with_number, words_say, write_says}
 use Rattle.era_plan.specs.Numbers.{count_of, era_of, lane_of, number_of, sector_of, unless_zero}
 use Rattle.era_plan.specs.Taking.{IsSayable}

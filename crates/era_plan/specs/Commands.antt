@@ -1,20 +1,7 @@
 -- Commands of a stream: how many bytes they have, and how many of them are of a lane.
-use Rattle.std.specs.Prelude.{◌≡◌, ℕ, ◌*◌, ◌%◌, ◌<◌, ◌≤◌, ◌==◌, List, length, sum_by, count_by}
+use Rattle.std.specs.Prelude.{ℕ, ◌==◌, List, sum_by, count_by}
+use Rattle.era_model.specs.Tasks.{payload_of_task}
 use Rattle.era_model.specs.declared.command.Command.{Command}
-use Rattle.era_model.specs.declared.command.Task.{Task}
-use Rattle.era_model.specs.declared.command.Task.TheVariants.{Write, Read, Ask}
-
--- So many bytes are 1 to 128 whole sectors.
-pub record IsPayload (count : ℕ) : Type 0 where
-  pub some : 0 < count
-  pub whole : count % 512 ≡ 0
-  pub most : count ≤ 65536
-
--- How many bytes a task writes, or asks for by a read.
-abbrev pub payload_of_task : Task → ℕ
-payload_of_task (Write sector bytes) = length bytes
-payload_of_task (Read sector count) = count * 512
-payload_of_task (Ask request) = 0
 
 -- How many bytes commands have together.
 abbrev pub payload_of : List Command → ℕ
@@ -23,9 +10,3 @@ payload_of commands = sum_by (λ command. payload_of_task command.task) commands
 -- How many of the commands are of a lane.
 abbrev pub count_of_lane : ℕ → List Command → ℕ
 count_of_lane lane commands = count_by (λ command. command.id.lane == lane) commands
-
--- A task is one that a line spells: a write has 1 to 128 whole sectors, and a read asks for as many.
-abbrev pub IsTask : Task → Type 0
-IsTask (Write sector bytes) = IsPayload (length bytes)
-IsTask (Read sector count) = (0 < count) × (count ≤ 128)
-IsTask (Ask request) = Unit {0}

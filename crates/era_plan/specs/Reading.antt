@@ -4,7 +4,8 @@ use Rattle.era_base.specs.declared.limits.TheConstants.{MOST_COMMANDS}
 use Rattle.era_line.specs.Lines.{lines_of}
 use Rattle.era_line.specs.Reading.{EndsInside, IsAhead}
 use Rattle.era_model.specs.declared.command.Command.{Command}
-use Rattle.era_plan.specs.Commands.{IsTask, count_of_lane, payload_of}
+use Rattle.era_model.specs.Tasks.{IsTask}
+use Rattle.era_plan.specs.Commands.{count_of_lane, payload_of}
 use Rattle.era_plan.specs.Stream.{AtEnd, GoOn, RefusedAt, Standing, no_round, stream_from, with_round}
 use Rattle.era_plan.specs.declared.counts.Counts.{Counts}
 use Rattle.era_plan.specs.declared.round.PlanError.{PlanError}

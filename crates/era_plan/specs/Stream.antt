@@ -4,7 +4,8 @@ use Rattle.era_base.specs.declared.limits.TheConstants.{MOST_COMMANDS}
 use Rattle.era_line.specs.Lines.{lines_of}
 use Rattle.era_model.specs.declared.command.Command.{Command}
 use Rattle.era_model.specs.declared.command.Task.{Task}
-use Rattle.era_plan.specs.Commands.{payload_of, payload_of_task, count_of_lane}
+use Rattle.era_model.specs.Tasks.{payload_of_task}
+use Rattle.era_plan.specs.Commands.{payload_of, count_of_lane}
 use Rattle.era_plan.specs.Forms.{line_says}
 use Rattle.era_plan.specs.declared.round.LineKind.{LineKind}
 use Rattle.era_plan.specs.declared.round.LineKind.TheVariants.{RoundBig, TooMany}

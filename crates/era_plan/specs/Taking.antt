@@ -4,7 +4,7 @@ use Rattle.era_base.specs.declared.limits.TheConstants.{MOST_COMMANDS}
 use Rattle.era_line.specs.Lines.{lines_of}
 use Rattle.era_line.specs.Reading.{EndsInside, IsAhead, ReadsLine}
 use Rattle.era_model.specs.declared.command.Task.{Task}
-use Rattle.era_plan.specs.Commands.{IsTask, payload_of_task}
+use Rattle.era_model.specs.Tasks.{IsTask, payload_of_task}
 use Rattle.era_plan.specs.Reading.{HasCounted}
 use Rattle.era_plan.specs.Stream.{Ends, GoOn, Goes, Refuses, Standing, Step, line_step, says_step, with_round_ended}
 use Rattle.era_plan.specs.declared.counts.Counts.{Counts}

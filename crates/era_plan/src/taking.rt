@@ -3,7 +3,7 @@
 ghost use Rattle.std.specs.Prelude.{◌≡◌, ◌≢◌, ◌+◌, ◌<◌, ◌≤◌, List, [], ◌∷◌, ◌++◌, false, length, Ok, IfSome, IfNone, IfErr, OnOk};
 ghost use Rattle.era_base.specs.declared.limits.TheConstants.{MOST_COMMANDS};
 ghost use Rattle.era_model.specs.declared.command.Command.{Command as command_of_stream};
-ghost use Rattle.era_plan.specs.Commands.{IsTask, payload_of_task};
+ghost use Rattle.era_model.specs.Tasks.{IsTask, payload_of_task};
 ghost use Rattle.era_plan.specs.Reading.{HasCounted};
 ghost use Rattle.era_plan.specs.Stream.{Standing, is_round_big as is_round_big_with, is_session_big as is_session_big_with, next_command as command_in_line, says_step};
 ghost use Rattle.era_plan.specs.Taking.{EndsRound, FitsRound, FitsSession, IsOwn, IsSayable, StandsIn, Takes, refused_line};

@@ -5,7 +5,8 @@ use Rattle.std.proofs.lemmas.List.Elements.{All-nil, All-cons}
 use Rattle.std.proofs.lemmas.List.Sums.{sum_by-cons}
 use Rattle.era_base.specs.declared.ids.CmdId.{CmdId}
 use Rattle.era_model.specs.declared.command.Command.{Command}
-use Rattle.era_plan.specs.Commands.{IsTask, count_of_lane}
+use Rattle.era_model.specs.Tasks.{IsTask}
+use Rattle.era_plan.specs.Commands.{count_of_lane}
 use Rattle.era_plan.specs.Reading.{AreNext, HasGivenRound}
 use Rattle.era_plan.specs.Stream.{Standing}
 use Rattle.era_plan.specs.declared.stream_reader.Lines.{Lines}

@@ -20,7 +20,7 @@ use Rattle.era_model.specs.SessionRun.{AreAllDrawnBy}
 use Rattle.era_model.specs.StreamLists.{era_behind, IsWrittenSince, ListsNameWritten}
 use Rattle.era_model.specs.Validity.{AreValidMarks}
 use Rattle.era_model.specs.Writes.{block_bytes}
-use Rattle.era_plan.specs.Commands.{IsPayload}
+use Rattle.era_model.specs.Tasks.{IsPayload}
 use Rattle.era_model.specs.declared.command.Request.TheVariants.{Checkpoint, List as ListRequest}
 use Rattle.era_model.specs.declared.command.Task.{Task}
 use Rattle.era_model.specs.declared.command.Task.TheVariants.{Write as WriteTask, Ask}

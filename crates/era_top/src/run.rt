@@ -3,7 +3,7 @@
 ghost use Rattle.std.specs.Prelude.{◌≡◌, length, vec_capacity, All};
 ghost use Rattle.era_base.specs.Geometry.{blocks_of};
 ghost use Rattle.era_model.specs.Marks.{blocks_of_marks};
-ghost use Rattle.era_plan.specs.Commands.{IsPayload};
+ghost use Rattle.era_model.specs.Tasks.{IsPayload};
 ghost use Rattle.era_top.specs.Runs.{IsServedTask, tasks_of};
 ghost use Rattle.era_top.specs.Steps.{AnswersRequest, IsRoomFor, MovesEra, RunBehind, StopsWhereCut, TaskWent, TellsBlocks, WriteWent};
 

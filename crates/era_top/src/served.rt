@@ -1,7 +1,7 @@
 //! Which commands are served so far.
 
 ghost use Rattle.std.specs.Prelude.{◌≡◌, ◌↔◌, All, IfNone, IfSome, IsTrue};
-ghost use Rattle.era_plan.specs.Commands.{IsTask};
+ghost use Rattle.era_model.specs.Tasks.{IsTask};
 ghost use Rattle.era_top.specs.Runs.{IsServedCommand};
 ghost use Rattle.era_top.specs.Endings.{IsFirstUnserved};
 
