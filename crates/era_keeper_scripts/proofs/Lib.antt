@@ -1,2 +1,1 @@
-mod BenchStart
 mod BenchSteps

@@ -1,14 +1,12 @@
 //! A keeper of 64 blocks over a metadata disk, behind a gate.
 
-ghost use Rattle.std.specs.Prelude.{◌≡◌, true, IfOk, IfSome};
+ghost use Rattle.std.specs.Prelude.{IfOk, IfSome};
 ghost use Rattle.era_keeper_scripts.specs.Benches.{IsBench};
 
 use era_base::{Disk, Geometry, Memory};
 use era_gate::{Gate, Pass};
 use era_keeper::Keeper;
 use era_meta::Meta;
-use era_meta::opening_laws::{disk_stands_for_valid_marks, next_era_keeps_last_eras};
-use era_model::last_eras_are_bounded;
 use std::alloc::Global;
 
 /// The gate, the keeper and a pass over a disk that is opened for an origin of 512 sectors in blocks of 8; none where that is
@@ -17,12 +15,8 @@ pub fn start<D: Disk + Drop>(
     alloc: Global,
     disk: D,
 ) -> Result<Option<(Gate, Keeper<D>, Pass)>, Memory>
-    requires tells { D.tells ≡ true }
     ensures bench { IfOk result (λ made. IfSome made (λ r. IsBench D.Disk 0 r.0 r.1 r.2)) }
 {
-    disk_stands_for_valid_marks();
-    next_era_keeps_last_eras();
-    last_eras_are_bounded();
     let Ok(asked) = Geometry::new(512, 8) else {
         return Ok(None);
     };

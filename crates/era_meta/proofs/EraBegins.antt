@@ -104,9 +104,11 @@ pub begun-as : {D : Type 0} (disk : Ghosts D) (asked : Geometry) (mid old : D) (
 begun-as disk asked mid old meta same begun = record {
   standing = begun.standing;
   stored = begun.stored;
+  fresh = begun.fresh;
   numbered = begun.numbered;
   geometry = begun.geometry;
   told = λ told. subst (λ (seen : List ℕ). HasBegun asked seen meta (disk.history meta.slots.disk).now) (same told) (begun.told told);
+  alone = begun.alone;
 }
 
 pub begun-map : {D : Type 0} (disk : Ghosts D) (asked : Geometry) (mid old : D) (result : Result (Meta D) (MetaRefusal D))

@@ -46,6 +46,7 @@ mod HeldReads
 mod Looks
 mod Looked
 mod SlotsTried
+mod FreshEras
 mod EraBegins
 mod CanBegin
 mod Starts

@@ -23,6 +23,7 @@ use Rattle.era_meta.specs.InMemory.{meaning_in}
 use Rattle.era_meta.specs.Meaning.{Meaning, IsImageOf}
 use Rattle.era_meta.specs.MetaCalls.{IsReady}
 use Rattle.era_meta.specs.Parts.{FitRoot}
+use Rattle.era_meta.specs.Stored.{HasNoneLeft}
 use Rattle.era_meta.specs.Trials.{metadata_blocks}
 
 -- Parts in memory with which a blank disk is formatted: they belong together with a valid root of these marks, without a snapshot, whose pages have the numbers from 3 on.
@@ -43,7 +44,7 @@ pub record StoresMeaning {D : Type 0} (meta : Meta D) (meaning : Meaning) (now :
   pub says : meaning_in now meta ≡ meaning
   pub images : Leaves (IsImageOf meaning) now
 
--- A disk was formatted with marks: the metadata is ready for the next call, in memory and on the disk it has these marks and no snapshot, the commit has the number 1, and the pages have the numbers from 3 on.
+-- A disk was formatted with marks: the metadata is ready for the next call, in memory and on the disk it has these marks and no snapshot, no failed commit has left anything, the commit has the number 1, and the pages have the numbers from 3 on.
 pub record IsFormatted {D : Type 0} (disk : Ghosts D) (m : BlockMarks) (meta : Meta D) : Type 0 where
   pub ready : IsReady disk meta
   pub marks : meta.marks ≡ m
@@ -51,6 +52,7 @@ pub record IsFormatted {D : Type 0} (disk : Ghosts D) (m : BlockMarks) (meta : M
   pub number : meta.slots.number ≡ 1
   pub pages : pages_of (fields_of meta.root) ≡ numbers_from 3 (page_count (blocks_of_marks m) (length m.archive))
   pub stored : Now disk (StoresMeaning meta (marks_alone m)) meta.slots.disk
+  pub alone : Now disk (HasNoneLeft meta.slots) meta.slots.disk
 
 -- The disk of a formatting, in the metadata or in the refusal.
 abbrev pub formatted_disk : {D : Type 0} → Result (Meta D) (FormatRefusal D) → D

@@ -1,12 +1,12 @@
 -- What an opening for serving did and gave, and what it may leave of its disk at each moment. A definition takes the members of the disk's trait, as `D.Disk`.
 use Rattle.std.specs.Prelude.{◌≡◌, ℕ, ◌+◌, ◌<◌, ◌≤◌, ◌^◌, ◌⊎◌, true, false, List, Option, MatchOption}
-use Rattle.era_base.specs.Calls.{SameDisk}
+use Rattle.era_base.specs.Calls.{Now, SameDisk}
 use Rattle.era_base.specs.CrashModel.{State, History, Went, Leaves, SameBut, Continues, AllBetween, clock, state_at}
 use Rattle.era_base.specs.declared.disk.Disk.{Ghosts}
 use Rattle.era_base.specs.declared.geometry.Geometry.{Geometry}
 use Rattle.era_base.specs.declared.limits.TheConstants.{LAST_ERA}
 use Rattle.era_layout.specs.Root.{fields_of}
-use Rattle.era_model.specs.Marks.{no_marks, rolled}
+use Rattle.era_model.specs.Marks.{marks_last_era, no_marks, rolled}
 use Rattle.era_slots.specs.Slot.{commit_number, IsBlank}
 use Rattle.era_meta.specs.declared.metadata.Meta.{Meta}
 use Rattle.era_meta.specs.declared.refusal.MetaError.{MetaError}
@@ -17,6 +17,7 @@ use Rattle.era_meta.specs.InMemory.{meaning_in}
 use Rattle.era_meta.specs.Meaning.{Meaning, IsImageOf}
 use Rattle.era_meta.specs.MetaCalls.{IsStanding}
 use Rattle.era_meta.specs.Openings.{HasOpeningCause}
+use Rattle.era_meta.specs.Stored.{HasNoneLeft}
 use Rattle.era_meta.specs.StoredMarks.{with_marks}
 use Rattle.era_meta.specs.Trials.{Trial, HoldAll, EndsOpening, all_calls, metadata_blocks}
 
@@ -92,10 +93,12 @@ pub record HasBegun {D : Type 0} (asked : Geometry) (seen : List ℕ) (meta : Me
       × StoresNow meta (next_era before) (commit_number (newest_slot seen) seen + 1) now
   pub blank : IsBlank seen → StoresNow meta (formatted asked) 1 now
 
--- What a start gives: the metadata stands, nothing is unstored, numbers are left, it is of the geometry that was asked for, and where the disk tells it has begun an era.
+-- What a start gives: the metadata stands, nothing is unstored, no block has a mark of its era, numbers are left, it is of the geometry that was asked for, and where the disk tells it has begun an era, and no failed commit has left anything.
 pub record IsBegun {D : Type 0} (disk : Ghosts D) (asked : Geometry) (old : D) (meta : Meta D) : Type 0 where
   pub standing : IsStanding disk meta
   pub stored : meta.unstored ≡ false
+  pub fresh : (block : ℕ) → marks_last_era meta.marks block < meta.marks.era
   pub numbered : (0 < meta.slots.number) × (meta.slots.number ≤ 2 ^ 62)
   pub geometry : HasSize (fields_of meta.root) asked.sectors asked.block_sectors
   pub told : disk.tells ≡ true → HasBegun asked (disk.history old).now.seen meta (disk.history meta.slots.disk).now
+  pub alone : Now disk (HasNoneLeft meta.slots) meta.slots.disk

@@ -52,6 +52,10 @@ pub record TakesNextSlot {D : Type 0} (old new : Slots D) : Type 0 where
   pub number : new.number ≡ old.number + 1
   pub may_be_open : new.may_be_open ≡ nat_lt 0 old.number
 
+-- No commit that failed in opening its gate has left anything that a crash may bring back.
+abbrev pub HasNoneLeft : {D : Type 0} → Slots D → State → Type 0
+HasNoneLeft slots now = slots.may_be_open ≡ true → (left : Meaning) → ¬ IsLeft slots.target slots.number left now
+
 -- A root is the committed one, it says this meaning, each crash image stands for that, and no failed commit left another.
 pub record IsStoredRoot {D : Type 0} (slots : Slots D) (root : RootFields) (held : Option RootFields) (meaning : Meaning) (now : State) : Type 0 where
   pub keeps : KeepsFor slots root held now

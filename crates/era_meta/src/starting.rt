@@ -19,6 +19,7 @@ use crate::metadata::Meta;
 use crate::refusal::{MetaError, MetaRefusal};
 use crate::roots_reading::same_size;
 use era_base::{Bytes, Disk, Geometry, LAST_ERA};
+use era_model::{last_eras_are_bounded, switch_keeps_last_eras};
 use era_slots::Slots;
 use std::alloc::Global;
 
@@ -62,6 +63,9 @@ fn begin_era<D: Disk>(mut meta: Meta<D>, asked: &Geometry) -> Result<Meta<D>, Me
     ensures begun { IfOk result (IsBegun D.Disk asked.now meta.slots.disk) }
 {
     image_stands_for_one_meaning();
+    switch_keeps_last_eras();
+    last_eras_are_bounded();
+    meta.marks.are_valid();
     match can_begin(&meta, asked) {
         Ok(()) => {}
         Err(error) => {

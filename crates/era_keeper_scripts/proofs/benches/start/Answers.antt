@@ -2,19 +2,15 @@ use Rattle.std.proofs.Common.{arith, refl, sym, ap, ◌∙◌}
 use Rattle.era_gate.specs.Calls.{KeeperToken, PassToken}
 use Rattle.era_gate.specs.declared.plan.Plan.{Plan}
 use Rattle.era_meta.specs.declared.metadata.Meta.{Meta}
-use Rattle.era_keeper_scripts.proofs.BenchStart.{Laws, begun-fresh}
 use Rattle.era_keeper_scripts.proofs.benches.start.Goals as goal
 
 pub start-keeper-requires-clause-meta : goal.start-keeper-requires-clause-meta
 start-keeper-requires-clause-meta g c =
-    let meta = c.in-Ok-start.meta in
     let begun = c.in-Ok-start.ensures.begun in
-    let next = c.next_era_keeps_last_eras.ensures in
-    let laws : Laws = record { valid = c.disk_stands_for_valid_marks.ensures.marks; keeps = next.lasts; era = next.era; bounded = c.last_eras_are_bounded.ensures } in
     record {
       standing = begun.standing;
       stored = begun.stored;
-      fresh = λ block. begun-fresh g.D.Disk c.in-Ok.asked c.args.disk meta block laws c.requires.tells begun;
+      fresh = begun.fresh;
       below = begun.numbered.1;
     }
 

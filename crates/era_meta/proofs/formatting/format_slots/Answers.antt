@@ -26,6 +26,7 @@ returns-clause-ok g c = ok_map c.store_first.result (λ done.
         number = done.0;
         pages = c.requires.parts.pages;
         stored = λ told. first-stores slots parts (g.D.Disk.history slots.disk).now c.requires.parts.none (done.2 told);
+        alone = λ told. (done.2 told).alone;
       },
       λ told. let calls = done.1 told in omega (arith, calls, count),
     )) c.store_first.ensures.ok

@@ -8,6 +8,7 @@ use Rattle.era_meta.specs.Formatting.{LeavesBlankOr, marks_alone}
 use Rattle.era_meta.specs.Openings.{meta_of}
 use Rattle.era_meta.specs.Starting.{LeavesOpening}
 use Rattle.era_meta.proofs.EraBegins.{blank-leaves, blank-begins, first-room, still-leaves}
+use Rattle.era_meta.proofs.FreshEras.{first-fresh}
 use Rattle.era_meta.proofs.Looks.{same-still}
 use Rattle.era_meta.proofs.Starts.{started-still, started-commits}
 use Rattle.era_meta.proofs.serving.start_blank.Goals as goal
@@ -62,6 +63,7 @@ returns-in-Ok-format_slots-clause-begun g c =
     (record {
       standing = formatted.ready.standing;
       stored = refl;
+      fresh = λ block. first-fresh c.args.asked.now.sectors c.args.asked.now.block_sectors c.in-Ok.parts.marks block first.marks;
       numbered = ((let e : 0 < meta.slots.number = omega (arith, one) in e), (let e : meta.slots.number ≤ 4611686018427387904 = omega (arith, one) in e));
       geometry = (
         formatted.ready.standing.fit.sectors ∙ ap (λ (m : BlockMarks). m.sectors) first.marks,
@@ -70,6 +72,7 @@ returns-in-Ok-format_slots-clause-begun g c =
       told = λ told.
           blank-begins c.image_stands_for_one_meaning.ensures.blank c.args.asked.now (g.D.Disk.history c.args.slots.disk).now.seen meta (g.D.Disk.history meta.slots.disk).now
           c.in-Ok.parts.marks (c.requires.opened told).1 first.marks (formatted.stored told) one;
+      alone = formatted.alone;
     })
 
 -- the commit failed

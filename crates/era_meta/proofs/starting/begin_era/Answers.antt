@@ -6,6 +6,7 @@ use Rattle.era_meta.specs.InMemory.{MetaStores}
 use Rattle.era_meta.specs.Starting.{LeavesOpening}
 use Rattle.era_meta.specs.Trials.{begin_trials, metadata_blocks}
 use Rattle.era_meta.proofs.EraBegins.{marks-are, era-is, still-leaves, roll-leaves, roll-begins}
+use Rattle.era_meta.proofs.FreshEras.{rolled-fresh}
 use Rattle.era_meta.proofs.Looks.{same-still}
 use Rattle.era_meta.proofs.MetaKept.{rolled-sectors, rolled-size}
 use Rattle.era_meta.proofs.Starts.{started-still, started-commits}
@@ -63,6 +64,9 @@ returns-in-Ok-roll-clause-begun g c =
     record {
       standing = c.roll.ensures.standing;
       stored = ok.1.unstored;
+      fresh = λ block.
+          rolled-fresh meta.marks new.marks block (c.switch_keeps_last_eras.ensures meta.marks c.are_valid.ensures) (c.last_eras_are_bounded.ensures meta.marks c.are_valid.ensures)
+          ok.1.marks;
       numbered = ((let e : 0 < new.slots.number = omega arith in e), (let e : new.slots.number ≤ 2 ^ 62 = omega arith in e));
       geometry = (
         c.roll.ensures.standing.fit.sectors ∙ (ap (λ (m : BlockMarks). m.sectors) ok.1.marks ∙ (rolled-sectors meta.marks ∙ (sym fit.sectors ∙ fits.0.0))),
@@ -72,6 +76,7 @@ returns-in-Ok-roll-clause-begun g c =
           roll-begins c.image_stands_for_one_meaning.ensures.one c.image_stands_for_one_meaning.ensures.blank c.args.asked.now meta new
           (g.D.Disk.history meta.slots.disk).now (g.D.Disk.history new.slots.disk).now (c.requires.looked.told told) (marks-are g.D.Disk meta c.requires.looked told) fits.1
           (ok.0.stored told) ok.0.number;
+      alone = λ told. (ok.0.stored told).alone;
     }
 
 -- the commit failed
