@@ -167,7 +167,7 @@ get-there [] k below = absurd (omega arith)
 get-there (x ∷ xs) zero below = (x, refl)
 get-there (x ∷ xs) (suc k) below = get-there xs k (omega arith)
 
-stripe-then : {D : Type 0} (disk : Ghosts D) (a b c : Stripe D) → SameStripe disk a b → SameStripe disk b c → SameStripe disk a c
+pub stripe-then : {D : Type 0} (disk : Ghosts D) (a b c : Stripe D) → SameStripe disk a b → SameStripe disk b c → SameStripe disk a c
 stripe-then disk a b c one two = record {
   index = two.index ∙ one.index;
   geometry = two.geometry ∙ one.geometry;
@@ -179,7 +179,7 @@ stripe-then disk a b c one two = record {
   table = two.table ∙ one.table;
 }
 
-keeper-then : {D : Type 0} (disk : Ghosts D) (a b c : Keeper D) → SameKeeper disk a b → SameKeeper disk b c → SameKeeper disk a c
+pub keeper-then : {D : Type 0} (disk : Ghosts D) (a b c : Keeper D) → SameKeeper disk a b → SameKeeper disk b c → SameKeeper disk a c
 keeper-then disk a b c one two = record {
   table = two.table ∙ one.table;
   device = record { place = two.device.place ∙ one.device.place; size = two.device.size ∙ one.device.size };

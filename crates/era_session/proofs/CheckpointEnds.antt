@@ -1,5 +1,5 @@
 -- How a checkpoint ends at the keeper: what was drawn, by the answer.
-use Rattle.std.proofs.Common.{◌≡◌, ℕ, ◌+◌, ◌≤◌, List, [], ◌∷◌, ◌++◌, length, inl, inr, refl, arith}
+use Rattle.std.proofs.Common.{ℕ, ◌+◌, ◌≤◌, List, [], ◌∷◌, length, inl, inr, refl, arith}
 use Rattle.era_base.specs.declared.disk.Disk.{Ghosts}
 use Rattle.era_base.specs.declared.ids.CmdId.{CmdId}
 use Rattle.era_gate.specs.Calls.{PassToken}
@@ -17,7 +17,7 @@ use Rattle.era_session.specs.Checkpoints.{AreCheckpointsEnd}
 -- the keeper drew these events, one or two of them
 pub record EndDrew {D : Type 0} (id : CmdId) (answer : Answer) (old new : Keeper D) (pass pass' : PassToken) : Type 0 where
   pub end : List Event
-  pub ends : AreCheckpointsEnd id answer end
+  pub ends : AreCheckpointsEnd id old.meta.marks.era answer end
   pub drew : Drew end old new pass pass'
   pub few : length end ≤ 2
 
@@ -28,13 +28,13 @@ end-drew disk id (EraIs era) old new pass pass' did = record { end = Roll id era
 end-drew disk id (Fault device count) old new pass pass' did = elim did.1 [
   | inl first ↦ record {
     end = Refused id CheckpointKind (MetaFault count) ∷ [];
-    ends = ([], refl);
+    ends = inl refl;
     drew = first.drew;
     few = omega arith;
   }
   | inr failed ↦ record {
     end = Roll id (old.meta.marks.era + 1) ∷ Refused id CheckpointKind (MetaFault count) ∷ [];
-    ends = (Roll id (old.meta.marks.era + 1) ∷ [], refl);
+    ends = inr refl;
     drew = failed.drew;
     few = omega arith;
   }

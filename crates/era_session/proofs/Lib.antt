@@ -8,3 +8,24 @@ pub mod Settled
 pub mod CheckpointEnds
 -- What a request did at the keeper.
 pub mod Asked
+-- What each step of a marking asks and draws.
+pub mod Marking
+-- What each step of a write asks.
+pub mod WriteSteps
+-- How a write ends, by its last step.
+pub mod WriteEnds
+-- The stripe of a block, and a write or a read there.
+pub mod Places
+pub mod WriteAt
+pub mod ReadAt
+-- A request, whatever it asks.
+pub mod Served
+-- The seats of a session at its end.
+pub mod HandedOver
+-- What a session begins with.
+pub mod ListsInOrder
+pub mod OriginBytes
+pub mod SyncedParts
+pub mod StripesBegun
+pub mod SessionBegun
+pub mod Prepared

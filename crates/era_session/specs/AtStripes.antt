@@ -15,7 +15,7 @@ use Rattle.era_session.specs.declared.session.Session.{Session}
 use Rattle.era_stripe.specs.Stripes.{view_of as stripe_view}
 use Rattle.era_stripe.specs.declared.stripe.Stripe.{Stripe}
 
--- A stripe was given the room of a command: it is the same but for that.
+-- A stripe was given the room of a command: what it says of its part, its device, its seat, its cut write and its notes are as before.
 pub record IsAdmitted {D : Type 0} (disk : Ghosts D) (old new : Stripe D) : Type 0 where
   pub view : stripe_view disk new ≡ stripe_view disk old
   pub device : new.disk ≡ old.disk

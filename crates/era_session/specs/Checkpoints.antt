@@ -1,5 +1,5 @@
 -- What a checkpoint came to.
-use Rattle.std.specs.Prelude.{◌≡◌, ℕ, zero, suc, ◌+◌, ◌<◌, ◌≤◌, true, List, [], ◌∷◌, ◌++◌, length, slice_get, slice_set, Option, Some, None, Result, Ok, Err, vec_len}
+use Rattle.std.specs.Prelude.{◌≡◌, ◌⊎◌, ℕ, zero, suc, ◌+◌, ◌<◌, ◌≤◌, true, List, [], ◌∷◌, ◌++◌, length, slice_get, slice_set, Option, Some, None, Result, Ok, Err, vec_len}
 use Rattle.era_base.specs.Faults.{HasCount}
 use Rattle.era_base.specs.declared.disk.Disk.{Ghosts}
 use Rattle.era_base.specs.declared.ids.CmdId.{CmdId}
@@ -77,14 +77,15 @@ pub record Settlings {D : Type 0} (disk : Ghosts D) (by : CmdId) (k : ℕ) (old 
   pub drew : PassDrew events no_write old.pass new.pass
   pub few : length events ≤ k
 
--- The events of a checkpoint at the keeper, by its answer. Of a fault of the metadata disk, either the present era couldn't be stored, or the next one.
-abbrev pub AreCheckpointsEnd : CmdId → Answer → List Event → Type 0
-AreCheckpointsEnd id (EraIs era) events = events ≡ Roll id era ∷ []
-AreCheckpointsEnd id (KeptAnswer inside) events = events ≡ Kept id inside ∷ []
-AreCheckpointsEnd id End events = events ≡ Refused id CheckpointKind EndWhy ∷ []
-AreCheckpointsEnd id (Fault device count) events =
-    (before : List Event) × (events ≡ before ++ Refused id CheckpointKind (MetaFault count) ∷ [])
-AreCheckpointsEnd id answer events = ⊥
+-- The events of a checkpoint at the keeper in an era, by its answer. Of a fault of the metadata disk, either this era couldn't be stored, or the next one, to which the session has moved.
+abbrev pub AreCheckpointsEnd : CmdId → ℕ → Answer → List Event → Type 0
+AreCheckpointsEnd id era (EraIs next) events = events ≡ Roll id next ∷ []
+AreCheckpointsEnd id era (KeptAnswer inside) events = events ≡ Kept id inside ∷ []
+AreCheckpointsEnd id era End events = events ≡ Refused id CheckpointKind EndWhy ∷ []
+AreCheckpointsEnd id era (Fault device count) events =
+    (events ≡ Refused id CheckpointKind (MetaFault count) ∷ [])
+    ⊎ (events ≡ Roll id (era + 1) ∷ Refused id CheckpointKind (MetaFault count) ∷ [])
+AreCheckpointsEnd id era answer events = ⊥
 
 -- What a checkpoint came to: each stripe's cut write was resolved or passed over, and then the keeper did its part, by the answer.
 pub record CheckpointWent {D : Type 0} (disk : Ghosts D) (id : CmdId) (answer : Answer) (old new : Session D) : Type 0 where
@@ -92,5 +93,5 @@ pub record CheckpointWent {D : Type 0} (disk : Ghosts D) (id : CmdId) (answer : 
   pub settling : Settlings disk id (length old.stripes.items) old settled
   pub keeper : KeeperCalled disk (CheckpointDid disk id answer) answer settled new
   pub end : List Event
-  pub ends : AreCheckpointsEnd id answer end
+  pub ends : AreCheckpointsEnd id settled.keeper.meta.marks.era answer end
   pub drew : PassDrew (settling.events ++ end) no_write old.pass new.pass

@@ -5,7 +5,14 @@ pub mod Receipts
 pub mod Sessions
 -- What each call came to.
 pub mod Writes
+pub mod Marking
 pub mod AtStripes
 pub mod Reads
 pub mod Requests
 pub mod Checkpoints
+-- What a command comes to, whatever it asks.
+pub mod Serving
+-- What a session leaves at its end.
+pub mod Ends
+-- What a session begins with.
+pub mod Openings

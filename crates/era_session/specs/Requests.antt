@@ -1,5 +1,5 @@
 -- What a request to the metadata came to.
-use Rattle.std.specs.Prelude.{◌≡◌, ℕ, Bool, List, [], ◌∷◌}
+use Rattle.std.specs.Prelude.{◌≡◌, ℕ, Bool, List, Option, Some, None, option_to_list}
 use Rattle.era_base.specs.declared.disk.Disk.{Ghosts}
 use Rattle.era_base.specs.declared.ids.CmdId.{CmdId}
 use Rattle.era_gate.specs.Calls.{PassToken}
@@ -20,24 +20,28 @@ use Rattle.era_session.specs.AtStripes.{IsKeeperAdmitted}
 use Rattle.era_session.specs.Sessions.{SamePlan}
 use Rattle.era_session.specs.declared.session.Session.{Session}
 
--- The events of a request that the keeper alone serves, by its answer.
+-- The event of a request that the keeper alone serves, by its answer; none is of no such request.
+abbrev pub request_event : CmdId → Request → Answer → Option Event
+request_event id TakeSnap (SnapAnswer block) = Some (Snap id block)
+request_event id TakeSnap (Held block) = Some (Refused id TakeSnapKind (HeldWhy block))
+request_event id TakeSnap (Fault device count) = Some (Refused id TakeSnapKind (MetaFault count))
+request_event id DropSnap Fine = Some (Dropped id)
+request_event id DropSnap NoSnap = Some (Refused id DropSnapKind NoSnapWhy)
+request_event id DropSnap (Fault device count) = Some (Refused id DropSnapKind (MetaFault count))
+request_event id DigestRequest (DigestAnswer era page) = Some (Digest id era page)
+request_event id DigestRequest Idle = Some (Refused id DigestKind IdleWhy)
+request_event id DigestRequest (Fault device count) = Some (Refused id DigestKind (MetaFault count))
+request_event id StatusRequest (StatusAnswer used total era held) = Some (Status id used total era held)
+request_event id StatusRequest (Fault device count) = Some (Refused id StatusKind (MetaFault count))
+request_event id (ListRequest since snap) (Blocks runs) = Some (ListEvent id since snap runs)
+request_event id (ListRequest since snap) NoSnap = Some (Refused id ListKind NoSnapWhy)
+request_event id (ListRequest since snap) Memory = Some (Refused id ListKind MemoryWhy)
+request_event id (ListRequest since snap) (Fault device count) = Some (Refused id ListKind (MetaFault count))
+request_event id request answer = None
+
+-- The events of such a request, by its answer: the one that it drew.
 abbrev pub request_events : CmdId → Request → Answer → List Event
-request_events id TakeSnap (SnapAnswer block) = Snap id block ∷ []
-request_events id TakeSnap (Held block) = Refused id TakeSnapKind (HeldWhy block) ∷ []
-request_events id TakeSnap (Fault device count) = Refused id TakeSnapKind (MetaFault count) ∷ []
-request_events id DropSnap Fine = Dropped id ∷ []
-request_events id DropSnap NoSnap = Refused id DropSnapKind NoSnapWhy ∷ []
-request_events id DropSnap (Fault device count) = Refused id DropSnapKind (MetaFault count) ∷ []
-request_events id DigestRequest (DigestAnswer era page) = Digest id era page ∷ []
-request_events id DigestRequest Idle = Refused id DigestKind IdleWhy ∷ []
-request_events id DigestRequest (Fault device count) = Refused id DigestKind (MetaFault count) ∷ []
-request_events id StatusRequest (StatusAnswer used total era held) = Status id used total era held ∷ []
-request_events id StatusRequest (Fault device count) = Refused id StatusKind (MetaFault count) ∷ []
-request_events id (ListRequest since snap) (Blocks runs) = ListEvent id since snap runs ∷ []
-request_events id (ListRequest since snap) NoSnap = Refused id ListKind NoSnapWhy ∷ []
-request_events id (ListRequest since snap) Memory = Refused id ListKind MemoryWhy ∷ []
-request_events id (ListRequest since snap) (Fault device count) = Refused id ListKind (MetaFault count) ∷ []
-request_events id request answer = []
+request_events id request answer = option_to_list (request_event id request answer)
 
 -- What a request did at the keeper, by its answer.
 abbrev pub RequestWent : {D : Type 0} → Ghosts D → CmdId → Request → Answer → Keeper D → Keeper D → PassToken → PassToken → Type 0

@@ -95,6 +95,7 @@ pub record HasSettled {D : Type 0} (disk : Ghosts D) (id : CmdId) (result : Resu
 -- The block's mark was asked for as the stripe had entered the gate; nothing of the stripe changed but its stay.
 pub record HasAsked {D : Type 0} (disk : Ghosts D) (id : CmdId) (block : ℕ) (result : Result Unit ℕ) (old new : Desk D) : Type 0 where
   pub entered : PassToken
+  pub entering : PassDrew [] no_write old.pass entered
   pub did : MarkDid disk (has old.keeper.meta.marks.current block) id block result old.keeper new.keeper entered new.pass
   pub stripe : SameButStay old.stripe new.stripe
 

@@ -3,7 +3,16 @@
 #![tactic(auto)]
 
 mod checkpoints;
+mod closing;
+mod preparing;
+mod reading;
 mod requests;
+mod rooms;
+mod serving;
 mod session;
+mod writing;
 
+pub use closing::Ended;
+pub use preparing::{PrepareError, PrepareRefusal};
+pub use rooms::CommandRoom;
 pub use session::Session;

@@ -1,7 +1,9 @@
 use Rattle.std.proofs.Common.{◌≡◌, ℕ, ◌+◌, ◌≤◌, List, ◌++◌, length, refl, sym, ap, ◌∙◌, subst, arith}
 use Rattle.std.proofs.lemmas.List.{length-append}
 use Rattle.era_gate.specs.Passes.{no_write}
+use Rattle.era_meta.specs.declared.metadata.Meta.{Meta}
 use Rattle.era_session.specs.AtStripes.{IsKeeperAdmitted}
+use Rattle.era_session.specs.Checkpoints.{AreCheckpointsEnd}
 use Rattle.era_session.specs.Receipts.{PassDrew}
 use Rattle.era_session.specs.Sessions.{SamePlan, SameSession}
 use Rattle.era_session.proofs.AtStripes.{session-then}
@@ -45,7 +47,7 @@ returns-clause-did g c =
         cause = admitted-cause g.D.Disk settled.keeper c.admit.new.self (g.D.Disk.faults c.checkpoint.new.self.meta.slots.disk) c.checkpoint.result admitted c.checkpoint.ensures.cause;
       };
       end = ends.end;
-      ends = ends.ends;
+      ends = subst (λ (m : Meta g.row.D.Denot). AreCheckpointsEnd c.args.id m.marks.era c.checkpoint.result ends.end) admitted.meta ends.ends;
       drew = drew-both c.settle_all.ensures.did.events ends.end no_write no_write no_write c.args.self.now.pass settled.pass c.checkpoint.new.pass (λ id none. (none, none))
           c.settle_all.ensures.did.drew (keeper-drew ends.end c.admit.new.self c.checkpoint.new.self settled.pass c.checkpoint.new.pass ends.drew);
     }
