@@ -1,11 +1,9 @@
 -- The replies of commands as their parts, one after another.
-use Rattle.std.proofs.Common.{◌≡◌, ◌≢◌, ℕ, ◌+◌, true, false, List, [], ◌∷◌, ◌++◌, ap, sym, ◌∙◌, inl, inr, append_assoc}
-use Rattle.std.specs.Prelude.{codes, if◌then◌else◌}
+use Rattle.std.proofs.Common.{◌≡◌, ℕ, ◌+◌, true, false, List, [], ◌∷◌, ◌++◌, append_assoc}
+use Rattle.std.specs.Prelude.{codes}
 use Rattle.std.specs.Fmt.{decimal}
-use Rattle.std.proofs.lemmas.Bool.{eq-eqb}
-use Rattle.std.proofs.lemmas.Bool.Decides.{eqb_tells}
 use Rattle.std.proofs.lemmas.List.{append-nil}
-use Rattle.era_model.specs.Transcript.{run_text, runs_text}
+use Rattle.era_model.specs.Transcript.{runs_text}
 use Rattle.era_top.specs.declared.outcome.Outcome.TheVariants.{Done, Cut, Listed}
 use Rattle.era_top.specs.Outcomes.{outcome_line}
 
@@ -20,20 +18,6 @@ cut-marked line place faults = simp append_assoc
 pub cut-unmarked : (line place faults : ℕ) → outcome_line line place (Cut false faults)
     ≡ decimal line ++ (codes " fault data " ++ (decimal faults ++ (codes " g" ++ (decimal place ++ (codes " c" ++ (decimal (place + 1) ++ (10 ∷ [] ++ [])))))))
 cut-unmarked line place faults = simp append_assoc
-
--- a run of one block
-pub run-one : (first last : ℕ) → first ≡ last → run_text (first, last) ≡ decimal first ++ []
-run-one first last same = rw (eq-eqb first last same) (sym (append-nil (decimal first)))
-
-two-numbers : (first last : List ℕ) → first ++ codes "-" ++ last ≡ first ++ (codes "-" ++ (last ++ []))
-two-numbers first last = simp (append_assoc, append-nil)
-
--- a run of several blocks
-pub run-several : (first last : ℕ) → first ≢ last → run_text (first, last) ≡ decimal first ++ (codes "-" ++ (decimal last ++ []))
-run-several first last apart = elim (eqb_tells first last) [
-  | inl same ↦ absurd (apart same.1)
-  | inr other ↦ ap (λ same. if same then decimal first else decimal first ++ codes "-" ++ decimal last) other.0 ∙ two-numbers (decimal first) (decimal last)
-]
 
 -- the reply of a list
 pub list-parts : (line place : ℕ) (blocks : List (ℕ × ℕ)) → outcome_line line place (Listed blocks)

@@ -1,7 +1,6 @@
 //! The top call: one run of the program, from its words to the bytes on the devices.
 #![tactic(auto)]
 
-mod block_list;
 mod events;
 mod origin;
 mod outcome;

@@ -5,13 +5,13 @@ ghost use Rattle.era_base.specs.Faults.{HasCause};
 ghost use Rattle.era_line.specs.TextBuffer.{Adds};
 ghost use Rattle.era_top.specs.Outcomes.{answers_text, event_count, outcome_line};
 
-use crate::block_list::give_runs;
 use crate::events::count_events;
 use crate::outcome::Outcome;
 use era_base::{Failed, Runs, Sink};
 use era_line::Part::{Number, Text};
 use era_line::{TextBuffer, give_parts};
 use era_plan::Command;
+use era_reply::give_runs;
 
 /// Gives the reply of a write that went through, with its events from a place on.
 fn give_done<K: Sink>(

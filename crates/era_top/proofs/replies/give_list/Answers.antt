@@ -4,7 +4,7 @@ use Rattle.std.specs.Fmt.{decimal}
 use Rattle.era_line.specs.TextBuffer.{Adds}
 use Rattle.era_model.specs.Transcript.{runs_text}
 use Rattle.era_line.proofs.PartSteps.{HasCut, cut-then}
-use Rattle.era_top.proofs.Gives.{adds-then, cut-first}
+use Rattle.era_reply.proofs.Gives.{adds-then, cut-first}
 use Rattle.era_top.proofs.ReplyParts.{list-parts}
 use Rattle.era_top.proofs.replies.give_list.Goals as goal
 

@@ -1,7 +1,7 @@
 use Rattle.std.proofs.Common.{[], ◌∷◌}
 use Rattle.era_model.specs.Transcript.{run_text}
-use Rattle.era_top.proofs.Gives.{adds-then, cut-first}
-use Rattle.era_top.proofs.block_list.give_next_run.Goals as goal
+use Rattle.era_reply.proofs.Gives.{adds-then, cut-first}
+use Rattle.era_reply.proofs.runs.give_next_run.Goals as goal
 
 -- the sink failed at the comma
 pub returns-in_default-clause-added : goal.returns-in_default-clause-added

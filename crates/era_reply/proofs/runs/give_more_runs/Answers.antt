@@ -2,8 +2,8 @@ use Rattle.std.proofs.Common.{[], ◌++◌, refl, ap, sym, ◌∙◌, subst}
 use Rattle.std.proofs.lemmas.List.{append-nil}
 use Rattle.era_line.specs.TextBuffer.{Gathers}
 use Rattle.era_line.proofs.PartSteps.{HasCut, cut-then}
-use Rattle.era_top.proofs.Gives.{more_runs-next, runs_stand-end, runs_stand-next}
-use Rattle.era_top.proofs.block_list.give_more_runs.Goals as goal
+use Rattle.era_reply.proofs.Gives.{more_runs-next, runs_stand-end, runs_stand-next}
+use Rattle.era_reply.proofs.runs.give_more_runs.Goals as goal
 
 -- none was added at first
 pub loop-run-init : goal.loop-run-init

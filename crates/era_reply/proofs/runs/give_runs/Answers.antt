@@ -2,8 +2,8 @@ use Rattle.std.proofs.Common.{subst, sym}
 use Rattle.era_line.specs.TextBuffer.{Adds}
 use Rattle.era_model.specs.Transcript.{more_runs_text, run_text, runs_text}
 use Rattle.era_line.proofs.PartSteps.{HasCut}
-use Rattle.era_top.proofs.Gives.{adds-then, cut-first}
-use Rattle.era_top.proofs.block_list.give_runs.Goals as goal
+use Rattle.era_reply.proofs.Gives.{adds-then, cut-first}
+use Rattle.era_reply.proofs.runs.give_runs.Goals as goal
 
 -- the sink failed at the first run
 pub returns-in_default-give_run-clause-added : goal.returns-in_default-give_run-clause-added

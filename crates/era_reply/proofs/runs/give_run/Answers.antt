@@ -1,5 +1,5 @@
-use Rattle.era_top.proofs.ReplyParts.{run-one, run-several}
-use Rattle.era_top.proofs.block_list.give_run.Goals as goal
+use Rattle.era_reply.proofs.ReplyParts.{run-one, run-several}
+use Rattle.era_reply.proofs.runs.give_run.Goals as goal
 
 -- a run of one block
 pub returns-then-first-last-clause-added : goal.returns-then-first-last-clause-added

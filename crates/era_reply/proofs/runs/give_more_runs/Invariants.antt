@@ -1,7 +1,7 @@
 use Rattle.std.proofs.Common.{◌≡◌}
 use Rattle.era_line.proofs.PartSteps.{HasAdded}
-use Rattle.era_top.proofs.Gives.{RunsStand}
-use Rattle.era_top.proofs.block_list.give_more_runs.Given as goal
+use Rattle.era_reply.proofs.Gives.{RunsStand}
+use Rattle.era_reply.proofs.runs.give_more_runs.Given as goal
 
 -- the runs so far were added, and with those that are left they are all
 abbrev pub invariant-loop-run : goal.invariant-loop-run
