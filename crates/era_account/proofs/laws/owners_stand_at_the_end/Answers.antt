@@ -1,0 +1,5 @@
+use Rattle.era_account.proofs.OwnersAtEnd.{owners-stand}
+use Rattle.era_account.proofs.laws.owners_stand_at_the_end.Goals as goal
+
+pub returns : goal.returns
+returns g c = owners-stand g.D.Disk
