@@ -24,6 +24,8 @@ mod run;
 #[cfg(test)]
 mod streams;
 #[cfg(test)]
+mod tools;
+#[cfg(test)]
 mod words;
 #[cfg(test)]
 mod writes;

@@ -167,7 +167,7 @@ const LATER: Row<'static> = Row {
     ..USAGE
 };
 
-static NOT_YET: [Row<'static>; 7] = [
+static NOT_YET: [Row<'static>; 6] = [
     Row {
         words: &["serve", TABLE, "--stripes", "5"],
         ..LATER
@@ -182,11 +182,6 @@ static NOT_YET: [Row<'static>; 7] = [
     },
     Row {
         words: &["load", TABLE, "7"],
-        ..LATER
-    },
-    Row {
-        words: &["restore", "meta"],
-        stream: &[Text("eradump 1 512 8 2\n")],
         ..LATER
     },
     Row {

@@ -4,3 +4,4 @@ pub mod LastLoan
 pub mod KeptReads
 pub mod PutBack
 pub mod ImageTold
+pub mod Restored

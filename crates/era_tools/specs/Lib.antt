@@ -7,3 +7,5 @@ pub mod ListTool
 pub mod Around
 pub mod ClosedImages
 pub mod CheckTool
+pub mod ReadTexts
+pub mod RestoreTool

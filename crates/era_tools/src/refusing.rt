@@ -5,8 +5,7 @@ ghost use Rattle.era_tools.specs.Printing.{HasSinkCause, Prints};
 ghost use Rattle.era_tools.specs.Refusals.{geometry_text, metadata_status, metadata_text, refusal_status, refusal_text};
 ghost use Rattle.era_tools.specs.ToolLines.{wrong_geometry_line};
 
-use crate::kinds::damage_text;
-use crate::printing::print;
+use crate::printing::{print, print_damage, print_number, print_numbers};
 use crate::refusal::Refusal;
 use crate::status::Status;
 use era_base::{GeomError, Geometry, Sink};
@@ -20,17 +19,13 @@ fn refuse_geometry<K: Sink>(sink: &mut K, error: GeomError, size: u64) -> Status
     ensures sink { HasSinkCause (K.faults sink.old) (K.faults sink.new) result }
 {
     match error {
-        GeomError::BadBlockSize => print(
-            sink,
-            &[Text(b"refused BadBlockSize "), Number(size), Text(b"\n")],
-            Status::Refused,
-        ),
+        GeomError::BadBlockSize => {
+            print_number(sink, b"refused BadBlockSize ", size, Status::Refused)
+        }
         GeomError::NoBlocks => print(sink, &[Text(b"refused NoBlocks\n")], Status::Refused),
-        GeomError::TooManyBlocks(blocks) => print(
-            sink,
-            &[Text(b"refused TooManyBlocks "), Number(blocks), Text(b"\n")],
-            Status::Refused,
-        ),
+        GeomError::TooManyBlocks(blocks) => {
+            print_number(sink, b"refused TooManyBlocks ", blocks, Status::Refused)
+        }
     }
 }
 
@@ -64,45 +59,23 @@ fn refuse_metadata<K: Sink>(sink: &mut K, error: MetaError) -> Status
     ensures sink { HasSinkCause (K.faults sink.old) (K.faults sink.new) result }
 {
     match error {
-        MetaError::MetaSmall { have, need } => print(
-            sink,
-            &[
-                Text(b"refused MetaSmall "),
-                Number(have),
-                Text(b" "),
-                Number(need),
-                Text(b"\n"),
-            ],
-            Status::Refused,
-        ),
-        MetaError::Fault(count) => print(
-            sink,
-            &[Text(b"fault meta "), Number(count), Text(b"\n")],
-            Status::Fault,
-        ),
+        MetaError::MetaSmall { have, need } => {
+            print_numbers(sink, b"refused MetaSmall ", have, need, Status::Refused)
+        }
+        MetaError::Fault(count) => print_number(sink, b"fault meta ", count, Status::Fault),
         MetaError::Unformatted => print(sink, &[Text(b"refused Unformatted\n")], Status::Refused),
-        MetaError::Damaged { kind, block } => print(
-            sink,
-            &[
-                Text(b"refused Damaged "),
-                Text(damage_text(kind).as_bytes()),
-                Text(b" "),
-                Number(u64::from(block)),
-                Text(b"\n"),
-            ],
-            Status::Refused,
-        ),
+        MetaError::Damaged { kind, block } => {
+            print_damage(sink, b"refused Damaged ", kind, block, Status::Refused)
+        }
         MetaError::WrongGeometry { kept, asked } => refuse_other(sink, kept, asked),
         MetaError::EraEnd => print(
             sink,
             &[Text(b"refused EraEnd 4294967295\n")],
             Status::Refused,
         ),
-        MetaError::SequenceEnd(number) => print(
-            sink,
-            &[Text(b"refused SequenceEnd "), Number(number), Text(b"\n")],
-            Status::Refused,
-        ),
+        MetaError::SequenceEnd(number) => {
+            print_number(sink, b"refused SequenceEnd ", number, Status::Refused)
+        }
         MetaError::Memory => print(sink, &[Text(b"memory\n")], Status::Memory),
     }
 }
@@ -116,29 +89,13 @@ pub fn refuse<K: Sink>(sink: &mut K, refusal: Refusal) -> Status
     match refusal {
         Refusal::NoGeometry { error, size } => refuse_geometry(sink, error, size),
         Refusal::SameDevice => print(sink, &[Text(b"refused SameDevice\n")], Status::Refused),
-        Refusal::OriginSmall { have, need } => print(
-            sink,
-            &[
-                Text(b"refused OriginSmall "),
-                Number(have),
-                Text(b" "),
-                Number(need),
-                Text(b"\n"),
-            ],
-            Status::Refused,
-        ),
+        Refusal::OriginSmall { have, need } => {
+            print_numbers(sink, b"refused OriginSmall ", have, need, Status::Refused)
+        }
         Refusal::Metadata(error) => refuse_metadata(sink, error),
         Refusal::NoSnap => print(sink, &[Text(b"refused NoSnap\n")], Status::Refused),
-        Refusal::BayFault(count) => print(
-            sink,
-            &[Text(b"fault bay "), Number(count), Text(b"\n")],
-            Status::Fault,
-        ),
-        Refusal::DataFault(count) => print(
-            sink,
-            &[Text(b"fault data "), Number(count), Text(b"\n")],
-            Status::Fault,
-        ),
+        Refusal::BayFault(count) => print_number(sink, b"fault bay ", count, Status::Fault),
+        Refusal::DataFault(count) => print_number(sink, b"fault data ", count, Status::Fault),
         Refusal::NoRoom => print(sink, &[Text(b"memory\n")], Status::Memory),
     }
 }

@@ -1,6 +1,6 @@
 -- What a call ends with where nothing is refused and no count rises.
-use Rattle.std.proofs.Common.{◌≡◌, ◌⊎◌, inl, inr, ℕ, ◌<◌, ◌≤◌, List, [], ◌∷◌, ◌++◌, All, refl, ap, sym, suc, ◌∙◌, subst, arith}
-use Rattle.std.specs.Prelude.{Option, Some}
+use Rattle.std.proofs.Common.{◌≡◌, ◌⊎◌, inl, inr, ℕ, List, [], ◌∷◌, ◌++◌, All, refl, ap, sym, suc, ◌∙◌, subst, arith}
+use Rattle.std.specs.Prelude.{Option}
 use Rattle.era_base.specs.declared.disk.Disk.{Ghosts}
 use Rattle.era_base.specs.declared.geometry.Geometry.{Geometry}
 use Rattle.era_base.specs.Faults.{Rose, NoneRose}
@@ -23,11 +23,11 @@ use Rattle.era_top.specs.Reports.{Report, Refuses, Serves, Reports, ReportsSessi
 use Rattle.era_top.specs.Runs.{IsServedCommand}
 use Rattle.era_top.specs.Endings.{EndsBy, RefusesLine}
 use Rattle.era_top.specs.Sessions.{Session, Around}
-use Rattle.era_top.specs.Tools.{EndsQuiet, ReportsJob, ReportsTool, RunsTool}
+use Rattle.era_top.specs.Tools.{EndsQuiet, IsQuiet, ReportsTool, RunsTool}
 use Rattle.era_top.specs.Top.{IsServable}
 use Rattle.era_top.specs.Words.{IsServe, IsTool, IsUnserved}
 use Rattle.era_top.proofs.JobEnds.{geometry-never, job-ran, unread-lacks}
-use Rattle.era_top.proofs.ToolEnds.{IsOfInput, tool-so}
+use Rattle.era_top.proofs.ToolEnds.{IsNeverOf, never-memory, never-sink, tool-so}
 
 -- a count that didn't rise
 pub not-rose : (before now : ℕ) → NoneRose before now → Rose before now → ⊥
@@ -154,24 +154,85 @@ faultless-status D words disks bay streams Sink number is reports fault source s
 
 -- a tool that is served ends quietly
 module _ (D : Type 0) (words : List (List ℕ)) (disks : Ghosts D) (bay : BayAround D) (streams : StreamsAround) where
-  tool-never : (status : Status) (job : Job) → IsTool job → (IsUnserved job → ⊥) → IsJob words job → ReportsTool words disks bay streams status → IsOfInput status → ⊥
+  tool-never : (status : Status) (job : Job) → IsTool job → (IsUnserved job → ⊥) → IsJob words job → ReportsTool words disks bay streams status → IsNeverOf job status → ⊥
   tool-never status job tool served asked (inl unread) is = elim (unread-lacks D bay streams status words job asked unread) [
-    | inl lacked ↦ subst IsOfInput lacked is
-    | inr failed ↦ subst IsOfInput failed is
+    | inl lacked ↦ never-memory job (subst (IsNeverOf job) lacked is)
+    | inr failed ↦ never-sink job (subst (IsNeverOf job) failed is)
   ]
   tool-never status job tool served asked (inr ran) is =
       tool-so D disks bay streams status job tool served (job-ran words (λ job. RunsTool disks bay streams job status) job asked ran) is
 
+  -- a number of a tool, by its job
+  quiet-done : (job : Job) (number : ℕ) → number ≡ 0 → IsQuiet job number
+  quiet-done (job.Restore meta) number is = inl is
+  quiet-done (job.Need sectors size) number is = inl is
+  quiet-done (job.Check meta) number is = inl is
+  quiet-done (job.Invalidate meta since snap) number is = inl is
+  quiet-done (job.Dump meta logical) number is = inl is
+  quiet-done (job.Backup meta origin since) number is = inl is
+  quiet-done (job.Apply origin) number is = inl is
+  quiet-done (job.Serve line stripes digest) number is = inl is
+  quiet-done (job.Load line seed stripes) number is = inl is
+
+  quiet-damage : (job : Job) (number : ℕ) → number ≡ 1 → (IsNeverOf job Damage → ⊥) → IsQuiet job number
+  quiet-damage (job.Restore meta) number is never = absurd (never tt)
+  quiet-damage (job.Need sectors size) number is never = inr (inl is)
+  quiet-damage (job.Check meta) number is never = inr (inl is)
+  quiet-damage (job.Invalidate meta since snap) number is never = inr (inl is)
+  quiet-damage (job.Dump meta logical) number is never = inr (inl is)
+  quiet-damage (job.Backup meta origin since) number is never = inr (inl is)
+  quiet-damage (job.Apply origin) number is never = inr (inl is)
+  quiet-damage (job.Serve line stripes digest) number is never = inr (inl is)
+  quiet-damage (job.Load line seed stripes) number is never = inr (inl is)
+
+  quiet-line : (job : Job) (number : ℕ) → number ≡ 3 → (IsNeverOf job Line → ⊥) → IsQuiet job number
+  quiet-line (job.Restore meta) number is never = inr (inl is)
+  quiet-line (job.Need sectors size) number is never = absurd (never tt)
+  quiet-line (job.Check meta) number is never = absurd (never tt)
+  quiet-line (job.Invalidate meta since snap) number is never = absurd (never tt)
+  quiet-line (job.Dump meta logical) number is never = absurd (never tt)
+  quiet-line (job.Backup meta origin since) number is never = absurd (never tt)
+  quiet-line (job.Apply origin) number is never = absurd (never tt)
+  quiet-line (job.Serve line stripes digest) number is never = absurd (never tt)
+  quiet-line (job.Load line seed stripes) number is never = absurd (never tt)
+
+  quiet-rest : (job : Job) (number : ℕ) → (number ≡ 5) ⊎ (number ≡ 6) → IsQuiet job number
+  quiet-rest (job.Restore meta) number is = inr (inr is)
+  quiet-rest (job.Need sectors size) number is = inr (inr is)
+  quiet-rest (job.Check meta) number is = inr (inr is)
+  quiet-rest (job.Invalidate meta since snap) number is = inr (inr is)
+  quiet-rest (job.Dump meta logical) number is = inr (inr is)
+  quiet-rest (job.Backup meta origin since) number is = inr (inr is)
+  quiet-rest (job.Apply origin) number is = inr (inr is)
+  quiet-rest (job.Serve line stripes digest) number is = inr (inr is)
+  quiet-rest (job.Load line seed stripes) number is = inr (inr is)
+
+  never-usage : (job : Job) → IsNeverOf job Usage
+  never-usage (job.Restore meta) = tt
+  never-usage (job.Need sectors size) = tt
+  never-usage (job.Check meta) = tt
+  never-usage (job.Invalidate meta since snap) = tt
+  never-usage (job.Dump meta logical) = tt
+  never-usage (job.Backup meta origin since) = tt
+  never-usage (job.Apply origin) = tt
+  never-usage (job.Serve line stripes digest) = tt
+  never-usage (job.Load line seed stripes) = tt
+
   pub quiet-status : (status : Status) (number : ℕ) → number ≡ number_of status → ReportsTool words disks bay streams status
-      → (status ≡ Fault → SomeCountRose disks bay) → (status ≡ Sink → Rose streams.sink_faults streams.sink_faults')
+      → (status ≡ Fault → SomeCountRose disks bay) → (status ≡ Source → Rose streams.source_faults streams.source_faults')
+      → (status ≡ Sink → Rose streams.sink_faults streams.sink_faults')
       → IsFaultless disks bay streams → EndsQuiet words number
-  quiet-status Done number is reports fault sink faultless = record { quiet = λ job tool served asked. inl is }
-  quiet-status Damage number is reports fault sink faultless = record { quiet = λ job tool served asked. inr (inl is) }
-  quiet-status Usage number is reports fault sink faultless = record { quiet = λ job tool served asked. absurd (tool-never Usage job tool served asked reports tt) }
-  quiet-status Line number is reports fault sink faultless = record { quiet = λ job tool served asked. absurd (tool-never Line job tool served asked reports tt) }
-  quiet-status Fault number is reports fault sink faultless = absurd (some_count-never D disks bay streams faultless (fault refl))
-  quiet-status Memory number is reports fault sink faultless = record { quiet = λ job tool served asked. inr (inr (inl is)) }
-  quiet-status Refused number is reports fault sink faultless = record { quiet = λ job tool served asked. inr (inr (inr is)) }
-  quiet-status Source number is reports fault sink faultless = record { quiet = λ job tool served asked. absurd (tool-never Source job tool served asked reports tt) }
-  quiet-status Sink number is reports fault sink faultless =
+  quiet-status Done number is reports fault source sink faultless = record { quiet = λ job tool served asked. quiet-done job number is }
+  quiet-status Damage number is reports fault source sink faultless =
+      record { quiet = λ job tool served asked. quiet-damage job number is (tool-never Damage job tool served asked reports) }
+  quiet-status Usage number is reports fault source sink faultless =
+      record { quiet = λ job tool served asked. absurd (tool-never Usage job tool served asked reports (never-usage job)) }
+  quiet-status Line number is reports fault source sink faultless =
+      record { quiet = λ job tool served asked. quiet-line job number is (tool-never Line job tool served asked reports) }
+  quiet-status Fault number is reports fault source sink faultless = absurd (some_count-never D disks bay streams faultless (fault refl))
+  quiet-status Memory number is reports fault source sink faultless = record { quiet = λ job tool served asked. quiet-rest job number (inl is) }
+  quiet-status Refused number is reports fault source sink faultless = record { quiet = λ job tool served asked. quiet-rest job number (inr is) }
+  quiet-status Source number is reports fault source sink faultless =
+      absurd (not-rose streams.source_faults streams.source_faults' faultless.quiet_source (source refl))
+  quiet-status Sink number is reports fault source sink faultless =
       absurd (not-rose streams.sink_faults streams.sink_faults' faultless.quiet_sink (sink refl))

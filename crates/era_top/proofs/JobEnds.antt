@@ -1,13 +1,12 @@
 -- How calls end, by the job that their words ask for.
-use Rattle.std.proofs.Common.{◌≡◌, ◌⊎◌, inl, inr, ℕ, ◌<◌, List, refl, ap, sym, ◌∙◌, subst, arith}
+use Rattle.std.proofs.Common.{◌≡◌, ◌⊎◌, inl, inr, ℕ, List, refl, ap, ◌∙◌, subst, arith}
 use Rattle.std.specs.Prelude.{Option}
 use Rattle.era_base.specs.declared.disk.Disk.{Ghosts}
-use Rattle.era_base.specs.declared.geometry.Geometry.{Geometry}
 use Rattle.era_base.specs.declared.geometry.GeomError.{GeomError}
 use Rattle.era_base.specs.declared.geometry.GeomError.TheVariants.{BadBlockSize, NoBlocks, TooManyBlocks}
 use Rattle.era_words.specs.declared.job.Job.{Job}
 use Rattle.era_words.specs.declared.job.Job.TheVariants as job
-use Rattle.era_words.specs.Words.{IsJob, IsNoJob}
+use Rattle.era_words.specs.Words.{IsJob}
 use Rattle.era_words.proofs.OneJob.{one_job}
 use Rattle.era_tools.specs.Around.{BayAround}
 use Rattle.era_tools.specs.Needs.{AreGeometry, Blocks, IsNeeded, IsNoGeometry, Needed, NoGeometry, TellsNeed, needed_status, needed_text}
@@ -85,7 +84,7 @@ module _ (D : Type 0) (bay : BayAround D) (streams : StreamsAround) (result : St
 
   -- a tool that isn't served, and no tool
   pub unserved-ends : (disk : Ghosts D) (job : Job) → IsTool job → IsUnserved job → RunsTool disk bay streams job result → Ends result Usage
-  unserved-ends disk (job.Restore meta) tool unserved ran = usage-ends NotYet refl ran
+  unserved-ends disk (job.Restore meta) tool unserved ran = absurd unserved
   unserved-ends disk (job.Backup meta origin since) tool unserved ran = usage-ends NotYet refl ran
   unserved-ends disk (job.Apply origin) tool unserved ran = usage-ends NotYet refl ran
   unserved-ends disk (job.Need sectors size) tool unserved ran = absurd unserved

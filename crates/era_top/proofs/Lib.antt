@@ -30,3 +30,4 @@ pub mod JobEnds
 pub mod Serving
 pub mod Faultless
 pub mod Exactly
+pub mod Numbers

@@ -1,8 +1,8 @@
 -- What a session reports that was served over a disk that was lent in the same call.
-use Rattle.std.proofs.Common.{◌≡◌, inr, ℕ, ◌+◌, ◌*◌, ◌<◌, List, length, refl, ap, sym, ◌∙◌, subst, arith}
+use Rattle.std.proofs.Common.{◌≡◌, ℕ, ◌+◌, ◌*◌, ◌<◌, List, length, ap, sym, ◌∙◌, subst, arith}
 use Rattle.std.specs.Prelude.{true, Option, Some}
 use Rattle.era_base.specs.declared.geometry.Geometry.{Geometry}
-use Rattle.era_base.specs.Bay.{Loan, new_loan, ended_loan, KeepsSizes, HasContent, SameReadsBut}
+use Rattle.era_base.specs.Bay.{Loan, KeepsSizes, HasContent, SameReadsBut}
 use Rattle.era_base.specs.Bytes.{part}
 use Rattle.era_base.specs.Disk.{Place}
 use Rattle.era_base.specs.Faults.{Rose}

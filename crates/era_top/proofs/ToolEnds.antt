@@ -11,6 +11,9 @@ use Rattle.era_check.specs.declared.checked.Checked.TheVariants as found
 use Rattle.era_meta.specs.declared.refusal.MetaError.{MetaError}
 use Rattle.era_meta.specs.declared.refusal.MetaError.TheVariants as error
 use Rattle.era_meta.specs.Meaning.{Meaning}
+use Rattle.era_text.specs.ReadDumps.{HasFaultCause as HasTextFault}
+use Rattle.era_text.specs.declared.text_end.TextEnd.{TextEnd}
+use Rattle.era_text.specs.declared.text_end.TextEnd.TheVariants as end
 use Rattle.era_model.specs.Marks.{BlockMarks}
 use Rattle.era_tools.specs.Around.{BayAround}
 use Rattle.era_tools.specs.CheckTool.{RunsCheck, checked_status}
@@ -20,17 +23,19 @@ use Rattle.era_tools.specs.ListTool.{Listed, Blocks, NoSnapshot, NoMemory, Tells
 use Rattle.era_tools.specs.Needs.{Needed, Blocks as NeededBlocks, NoGeometry as NoneNeeded, needed_status}
 use Rattle.era_tools.specs.Printing.{Prints}
 use Rattle.era_tools.specs.Refusals.{refusal_status, refusal_text}
+use Rattle.era_tools.specs.ReadTexts.{SourceAround, end_status}
+use Rattle.era_tools.specs.RestoreTool.{HasRestored, IsUnrestored, RunsRestore}
 use Rattle.era_tools.specs.declared.refusal.Refusal.{Refusal}
 use Rattle.era_tools.specs.declared.refusal.Refusal.TheVariants.{NoGeometry, SameDevice, OriginSmall, Metadata, NoSnap, BayFault, DataFault, NoRoom}
 use Rattle.era_tools.specs.declared.status.Status.{Status}
-use Rattle.era_tools.specs.declared.status.Status.TheVariants.{Done, Damage, Usage, Line, Fault, Memory, Refused, Source, Sink}
+use Rattle.era_tools.specs.declared.status.Status.TheVariants.{Done, Damage, Usage, Line, Fault, Memory, Source, Sink}
 use Rattle.era_tools.proofs.LastLoan.{slice_get-last, slice_get-from_last}
 use Rattle.era_words.specs.declared.job.Job.{Job}
 use Rattle.era_words.specs.declared.job.Job.TheVariants as job
 use Rattle.era_top.specs.declared.refusal.WordsRefusal.{WordsRefusal}
 use Rattle.era_top.specs.declared.refusal.WordsRefusal.TheVariants.{NoCommand, NotYet, NoRoom as NoWordsRoom}
 use Rattle.era_top.proofs.Causes.{printed-fault}
-use Rattle.era_top.specs.Around.{AllReturned, HasFaultCause, HasSourceCause, SomeCountRose, StreamsAround}
+use Rattle.era_top.specs.Around.{AllReturned, HasFaultCause, HasSourceCause, SomeCountRose, StreamsAround, source_of}
 use Rattle.era_top.specs.Refusals.{words_status, words_text}
 use Rattle.era_top.specs.Tools.{RefusesWords, RunsTool}
 use Rattle.era_top.specs.Words.{IsTool, IsUnserved}
@@ -77,6 +82,36 @@ IsOfInput Line = Unit {0}
 IsOfInput Source = Unit {0}
 IsOfInput status = ⊥
 
+-- A status by which a tool that does a job never ends: one of what it doesn't read, or of what it doesn't test.
+abbrev pub IsNeverOf : Job → Status → Type 0
+IsNeverOf (job.Restore meta) Damage = Unit {0}
+IsNeverOf (job.Restore meta) Usage = Unit {0}
+IsNeverOf (job.Restore meta) status = ⊥
+IsNeverOf other status = IsOfInput status
+
+-- no tool's job excludes want of memory or a failed sink
+pub never-memory : (job : Job) → IsNeverOf job Memory → ⊥
+never-memory (job.Need sectors size) is = is
+never-memory (job.Check meta) is = is
+never-memory (job.Invalidate meta since snap) is = is
+never-memory (job.Dump meta logical) is = is
+never-memory (job.Restore meta) is = is
+never-memory (job.Backup meta origin since) is = is
+never-memory (job.Apply origin) is = is
+never-memory (job.Serve line stripes digest) is = is
+never-memory (job.Load line seed stripes) is = is
+
+pub never-sink : (job : Job) → IsNeverOf job Sink → ⊥
+never-sink (job.Need sectors size) is = is
+never-sink (job.Check meta) is = is
+never-sink (job.Invalidate meta since snap) is = is
+never-sink (job.Dump meta logical) is = is
+never-sink (job.Restore meta) is = is
+never-sink (job.Backup meta origin since) is = is
+never-sink (job.Apply origin) is = is
+never-sink (job.Serve line stripes digest) is = is
+never-sink (job.Load line seed stripes) is = is
+
 -- what is so of the status of a text is so of that of its run, but for the sink's failure
 ends-so : (given given' : Option (List ℕ)) (text : List ℕ) (ended result : Status) → Prints given given' text ended result → (IsOfInput ended → ⊥) → IsOfInput result → ⊥
 ends-so given given' text ended result printed never is = elim (printed-ends given given' text ended result printed) [
@@ -120,6 +155,53 @@ refusal-so NoSnap is = is
 refusal-so (BayFault count) is = is
 refusal-so (DataFault count) is = is
 refusal-so NoRoom is = is
+
+-- why a text wasn't read to its end is no fault, and it is the source's failure where that rose
+unread-fault : (ended : TextEnd) → end_status ended ≡ Fault → ⊥
+unread-fault (end.Line number kind) is = cc
+unread-fault (end.Source count) is = cc
+unread-fault (end.Sink count) is = cc
+unread-fault end.Memory is = cc
+
+unread-source : (ended : TextEnd) (before now : ℕ) → HasTextFault before now ended → end_status ended ≡ Source → Rose before now
+unread-source (end.Line number kind) before now cause is = cc
+unread-source (end.Source count) before now cause is = cause.1
+unread-source (end.Sink count) before now cause is = absurd cause
+unread-source end.Memory before now cause is = cc
+
+-- a restoring ends neither by a damage nor by its words
+ends-never : (Never : Status → Type 0) → (Never Sink → ⊥) → (given given' : Option (List ℕ)) (text : List ℕ) (ended result : Status)
+    → Prints given given' text ended result → (Never ended → ⊥) → Never result → ⊥
+ends-never Never sink given given' text ended result printed never is = elim (printed-ends given given' text ended result printed) [
+  | inl same ↦ never (subst Never same is)
+  | inr failed ↦ sink (subst Never failed is)
+]
+
+unread-never : (name : List ℕ) (ended : TextEnd) → IsNeverOf (job.Restore name) (end_status ended) → ⊥
+unread-never name (end.Line number kind) is = is
+unread-never name (end.Source count) is = is
+unread-never name (end.Sink count) is = is
+unread-never name end.Memory is = is
+
+metadata-never : (name : List ℕ) (refused : MetaError) → IsNeverOf (job.Restore name) (refusal_status (Metadata refused)) → ⊥
+metadata-never name (error.MetaSmall have need) is = is
+metadata-never name (error.Fault count) is = is
+metadata-never name error.Unformatted is = is
+metadata-never name (error.Damaged kind block) is = is
+metadata-never name (error.WrongGeometry kept asked) is = is
+metadata-never name error.EraEnd is = is
+metadata-never name (error.SequenceEnd number) is = is
+metadata-never name error.Memory is = is
+
+refusal-never : (name : List ℕ) (refusal : Refusal) → IsNeverOf (job.Restore name) (refusal_status refusal) → ⊥
+refusal-never name (NoGeometry error size) is = is
+refusal-never name SameDevice is = is
+refusal-never name (OriginSmall have need) is = is
+refusal-never name (Metadata refused) is = metadata-never name refused is
+refusal-never name NoSnap is = is
+refusal-never name (BayFault count) is = is
+refusal-never name (DataFault count) is = is
+refusal-never name NoRoom is = is
 
 -- a refusal isn't the source's
 pub refused-no_source : (streams : StreamsAround) (result : Status) (refusal : Refusal) → Prints streams.given streams.given' (refusal_text refusal) (refusal_status refusal) result
@@ -224,6 +306,72 @@ module _ (D : Type 0) (disk : Ghosts D) (bay : BayAround D) where
   over-so name given given' result Tells never (inl tells) is = never tells.meaning tells.told is
   over-so name given given' result Tells never (inr tells) is = ends-so given given' _ (refusal_status tells.refusal) result tells.printed (refusal-so tells.refusal) is
 
+  -- a restoring
+  unrestored-returned : (name : List ℕ) (m : BlockMarks) (refusal : Refusal) → IsUnrestored disk bay name m refusal → AllReturned bay
+  unrestored-returned name m (Metadata refused) cause = one-returned D bay cause.0 cause.1.back cause.1.loans
+  unrestored-returned name m (BayFault count) cause = not_lent-returned (BayFault count) cause
+  unrestored-returned name m NoRoom cause = not_lent-returned NoRoom cause
+  unrestored-returned name m (NoGeometry error size) cause = absurd cause
+  unrestored-returned name m SameDevice cause = absurd cause
+  unrestored-returned name m (OriginSmall have need) cause = absurd cause
+  unrestored-returned name m NoSnap cause = absurd cause
+  unrestored-returned name m (DataFault count) cause = absurd cause
+
+  restored-fault : (name : List ℕ) (m : BlockMarks) (lent : D) (refused : MetaError) → HasRestored disk bay name m lent (Some refused) → refusal_status (Metadata refused) ≡ Fault → SomeCountRose disk bay
+  restored-fault name m lent (error.Fault count) restored is = one-rose D disk bay lent restored.back restored.loans restored.cause.1
+  restored-fault name m lent (error.MetaSmall have need) restored is = cc
+  restored-fault name m lent error.Unformatted restored is = cc
+  restored-fault name m lent (error.Damaged kind block) restored is = cc
+  restored-fault name m lent (error.WrongGeometry kept asked) restored is = cc
+  restored-fault name m lent error.EraEnd restored is = cc
+  restored-fault name m lent (error.SequenceEnd number) restored is = cc
+  restored-fault name m lent error.Memory restored is = cc
+
+  unrestored-fault : (name : List ℕ) (m : BlockMarks) (refusal : Refusal) → IsUnrestored disk bay name m refusal → refusal_status refusal ≡ Fault → SomeCountRose disk bay
+  unrestored-fault name m (Metadata refused) cause is = restored-fault name m cause.0 refused cause.1 is
+  unrestored-fault name m (BayFault count) cause is = not_lent-fault (BayFault count) cause is
+  unrestored-fault name m NoRoom cause is = cc
+  unrestored-fault name m (NoGeometry error size) cause is = absurd cause
+  unrestored-fault name m SameDevice cause is = absurd cause
+  unrestored-fault name m (OriginSmall have need) cause is = absurd cause
+  unrestored-fault name m NoSnap cause is = absurd cause
+  unrestored-fault name m (DataFault count) cause is = absurd cause
+
+  restore-returned : (source : SourceAround) (name : List ℕ) (given given' : Option (List ℕ)) (result : Status) → RunsRestore disk bay source name given given' result → AllReturned bay
+  restore-returned source name given given' result (inl tells) = one-returned D bay tells.lent tells.restored.back tells.restored.loans
+  restore-returned source name given given' result (inr (inl tells)) = unrestored-returned name tells.marks tells.refusal tells.cause
+  restore-returned source name given given' result (inr (inr tells)) = none-returned D bay tells.left.loans
+
+  restore-fault : (source : SourceAround) (name : List ℕ) (given given' : Option (List ℕ)) (result : Status) → RunsRestore disk bay source name given given' result → HasFaultCause disk bay result
+  restore-fault source name given given' result (inl tells) = λ is.
+      let e : Done ≡ Fault = printed-fault given given' _ Done result tells.printed is in absurd (cc)
+  restore-fault source name given given' result (inr (inl tells)) = λ is.
+      unrestored-fault name tells.marks tells.refusal tells.cause (printed-fault given given' _ (refusal_status tells.refusal) result tells.printed is)
+  restore-fault source name given given' result (inr (inr tells)) = λ is.
+      absurd (unread-fault tells.ended (printed-fault given given' _ (end_status tells.ended) result tells.printed is))
+
+  restore-so : (source : SourceAround) (name : List ℕ) (given given' : Option (List ℕ)) (result : Status) → RunsRestore disk bay source name given given' result
+      → IsNeverOf (job.Restore name) result → ⊥
+  restore-so source name given given' result (inl tells) is =
+      ends-never (IsNeverOf (job.Restore name)) (λ no. no) given given' _ Done result tells.printed (λ no. no) is
+  restore-so source name given given' result (inr (inl tells)) is =
+      ends-never (IsNeverOf (job.Restore name)) (λ no. no) given given' _ (refusal_status tells.refusal) result tells.printed (refusal-never name tells.refusal) is
+  restore-so source name given given' result (inr (inr tells)) is =
+      ends-never (IsNeverOf (job.Restore name)) (λ no. no) given given' _ (end_status tells.ended) result tells.printed (unread-never name tells.ended) is
+
+  restore-source : (source : SourceAround) (name : List ℕ) (given given' : Option (List ℕ)) (result : Status) → RunsRestore disk bay source name given given' result
+      → result ≡ Source → Rose source.faults source.faults'
+  restore-source source name given given' result (inl tells) is = elim (printed-ends given given' _ Done result tells.printed) [
+    | inl same ↦ let e : Done ≡ Source = sym same ∙ is in absurd (cc)
+    | inr failed ↦ let e : Sink ≡ Source = sym failed ∙ is in absurd (cc)
+  ]
+  restore-source source name given given' result (inr (inl tells)) is =
+      absurd (ends-so given given' _ (refusal_status tells.refusal) result tells.printed (refusal-so tells.refusal) (subst IsOfInput (sym is) tt))
+  restore-source source name given given' result (inr (inr tells)) is = elim (printed-ends given given' _ (end_status tells.ended) result tells.printed) [
+    | inl same ↦ unread-source tells.ended source.faults source.faults' tells.cause.cause (sym same ∙ is)
+    | inr failed ↦ let e : Sink ≡ Source = sym failed ∙ is in absurd (cc)
+  ]
+
 -- what a list, a dump and a need tell is no fault
 listed-fault : (told : Listed) → listed_status told ≡ Fault → ⊥
 listed-fault (Blocks runs) is = cc
@@ -286,7 +434,7 @@ module _ (D : Type 0) (disk : Ghosts D) (bay : BayAround D) (streams : StreamsAr
   tool-fault (job.Invalidate meta since snap) ran =
       over-fault D disk bay meta streams.given streams.given' result _ (λ meaning. list-fault meaning.marks meaning.held since snap streams.given streams.given' result) ran.1
   tool-fault (job.Dump meta logical) ran = over-fault D disk bay meta streams.given streams.given' result _ (λ meaning prints. dump-fault result prints.ends) ran.1
-  tool-fault (job.Restore meta) ran = words-no_fault NotYet ran
+  tool-fault (job.Restore meta) ran = restore-fault D disk bay (source_of streams) meta streams.given streams.given' result ran
   tool-fault (job.Backup meta origin since) ran = words-no_fault NotYet ran
   tool-fault (job.Apply origin) ran = words-no_fault NotYet ran
   tool-fault (job.Serve line stripes digest) ran = words-no_fault NoCommand ran
@@ -298,26 +446,26 @@ module _ (D : Type 0) (disk : Ghosts D) (bay : BayAround D) (streams : StreamsAr
   tool-returned (job.Check meta) ran = check-returned D disk bay meta streams.given streams.given' result ran.1
   tool-returned (job.Invalidate meta since snap) ran = over-returned D disk bay meta streams.given streams.given' result _ ran.1
   tool-returned (job.Dump meta logical) ran = over-returned D disk bay meta streams.given streams.given' result _ ran.1
-  tool-returned (job.Restore meta) ran = words-returned NotYet ran
+  tool-returned (job.Restore meta) ran = restore-returned D disk bay (source_of streams) meta streams.given streams.given' result ran
   tool-returned (job.Backup meta origin since) ran = words-returned NotYet ran
   tool-returned (job.Apply origin) ran = words-returned NotYet ran
   tool-returned (job.Serve line stripes digest) ran = words-returned NoCommand ran
   tool-returned (job.Load line seed stripes) ran = words-returned NoCommand ran
 
-  -- a tool that is served and reads no input ends by no status of it
-  pub tool-so : (job : Job) → IsTool job → (IsUnserved job → ⊥) → RunsTool disk bay streams job result → IsOfInput result → ⊥
+  -- a tool that is served ends by no status of what it doesn't read or test
+  pub tool-so : (job : Job) → IsTool job → (IsUnserved job → ⊥) → RunsTool disk bay streams job result → IsNeverOf job result → ⊥
   tool-so (job.Need sectors size) tool served ran is = ends-so streams.given streams.given' _ (needed_status ran.1.told) result ran.1.printed (needed-so ran.1.told) is
   tool-so (job.Check meta) tool served ran is = check-so D disk bay meta streams.given streams.given' result ran.1 is
   tool-so (job.Invalidate meta since snap) tool served ran is =
       over-so D disk bay meta streams.given streams.given' result _ (λ meaning. list-so meaning.marks meaning.held since snap streams.given streams.given' result) ran.1 is
   tool-so (job.Dump meta logical) tool served ran is = over-so D disk bay meta streams.given streams.given' result _ (λ meaning prints. dump-so result prints.ends) ran.1 is
-  tool-so (job.Restore meta) tool served ran is = served tt
+  tool-so (job.Restore meta) tool served ran is = restore-so D disk bay (source_of streams) meta streams.given streams.given' result ran is
   tool-so (job.Backup meta origin since) tool served ran is = served tt
   tool-so (job.Apply origin) tool served ran is = served tt
   tool-so (job.Serve line stripes digest) tool served ran is = tool
   tool-so (job.Load line seed stripes) tool served ran is = tool
 
-  -- so the source is never the cause
+  -- so the source is never the cause but where it is read
   of-source : result ≡ Source → IsOfInput result
   of-source is = subst IsOfInput (sym is) tt
 
@@ -326,7 +474,7 @@ module _ (D : Type 0) (disk : Ghosts D) (bay : BayAround D) (streams : StreamsAr
   tool-source (job.Check meta) ran = λ is. absurd (tool-so (job.Check meta) tt (λ no. no) ran (of-source is))
   tool-source (job.Invalidate meta since snap) ran = λ is. absurd (tool-so (job.Invalidate meta since snap) tt (λ no. no) ran (of-source is))
   tool-source (job.Dump meta logical) ran = λ is. absurd (tool-so (job.Dump meta logical) tt (λ no. no) ran (of-source is))
-  tool-source (job.Restore meta) ran = words-no_source NotYet ran
+  tool-source (job.Restore meta) ran = restore-source D disk bay (source_of streams) meta streams.given streams.given' result ran
   tool-source (job.Backup meta origin since) ran = words-no_source NotYet ran
   tool-source (job.Apply origin) ran = words-no_source NotYet ran
   tool-source (job.Serve line stripes digest) ran = words-no_source NoCommand ran

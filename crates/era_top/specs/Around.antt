@@ -1,11 +1,12 @@
 -- What stands outside of a call, when it began and when it returned.
-use Rattle.std.specs.Prelude.{◌≡◌, ◌⊎◌, ℕ, ◌≤◌, Bool, List, length, slice_get, Option, Some}
+use Rattle.std.specs.Prelude.{◌≡◌, ◌⊎◌, ℕ, ◌≤◌, List, length, slice_get, Option, Some}
 use Rattle.era_base.specs.Bay.{Loan}
 use Rattle.era_base.specs.Faults.{Rose, NoneRose}
 use Rattle.era_base.specs.declared.disk.Disk.{Ghosts}
 use Rattle.era_base.specs.declared.streams.Source.{Ghosts as SourceMembers}
 use Rattle.era_base.specs.declared.streams.Sink.{Ghosts as SinkMembers}
 use Rattle.era_tools.specs.Around.{BayAround}
+use Rattle.era_tools.specs.ReadTexts.{SourceAround}
 use Rattle.era_tools.specs.declared.status.Status.{Status}
 use Rattle.era_tools.specs.declared.status.Status.TheVariants.{Fault, Source}
 
@@ -31,6 +32,15 @@ streams_around source sink source_old source_new sink_old sink_new = record {
   given' = sink.given sink_new;
   sink_faults = sink.faults sink_old;
   sink_faults' = sink.faults sink_new;
+}
+
+-- The source of the streams around a call.
+abbrev pub source_of : StreamsAround → SourceAround
+source_of streams = record {
+  left = streams.left;
+  left' = streams.left';
+  faults = streams.source_faults;
+  faults' = streams.source_faults';
 }
 
 -- Nothing was taken of the source, and its count of faults is as before.

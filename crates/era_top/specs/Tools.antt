@@ -1,5 +1,5 @@
 -- What a call of a tool reports, by what its words ask for. A definition takes the members of the disk's trait, as `D.Disk`.
-use Rattle.std.specs.Prelude.{◌≡◌, ◌⊎◌, ℕ, ◌≤◌, List}
+use Rattle.std.specs.Prelude.{◌≡◌, ◌⊎◌, ℕ, List}
 use Rattle.era_base.specs.declared.disk.Disk.{Ghosts}
 use Rattle.era_base.specs.declared.geometry.Geometry.{Geometry}
 use Rattle.era_base.specs.declared.geometry.GeomError.{GeomError}
@@ -14,10 +14,11 @@ use Rattle.era_tools.specs.DumpTool.{PrintsDump}
 use Rattle.era_tools.specs.ListTool.{TellsList}
 use Rattle.era_tools.specs.Needs.{IsNoGeometry, TellsNeed}
 use Rattle.era_tools.specs.Printing.{Prints, number_of}
+use Rattle.era_tools.specs.RestoreTool.{RunsRestore}
 use Rattle.era_tools.specs.declared.status.Status.{Status}
 use Rattle.era_top.specs.declared.refusal.WordsRefusal.{WordsRefusal}
 use Rattle.era_top.specs.declared.refusal.WordsRefusal.TheVariants.{NoCommand, NotYet, NoRoom}
-use Rattle.era_top.specs.Around.{LeavesSource, StreamsAround}
+use Rattle.era_top.specs.Around.{LeavesSource, StreamsAround, source_of}
 use Rattle.era_top.specs.Refusals.{words_status, words_text}
 use Rattle.era_top.specs.Words.{IsNeed, IsNoTool, IsTool, IsUnserved}
 
@@ -43,7 +44,7 @@ RunsTool disk bay streams (job.Invalidate meta since snap) result =
 RunsTool disk bay streams (job.Dump meta logical) result =
     LeavesSource streams
     × RunsOver disk bay meta streams.given streams.given' result (λ meaning. PrintsDump (dumped_marks meaning.marks logical) streams.given streams.given' result)
-RunsTool disk bay streams (job.Restore meta) result = RefusesWords bay streams NotYet result
+RunsTool disk bay streams (job.Restore meta) result = RunsRestore disk bay (source_of streams) meta streams.given streams.given' result
 RunsTool disk bay streams (job.Backup meta origin since) result = RefusesWords bay streams NotYet result
 RunsTool disk bay streams (job.Apply origin) result = RefusesWords bay streams NotYet result
 RunsTool disk bay streams (job.Serve line stripes digest) result = RefusesWords bay streams NoCommand result
@@ -81,6 +82,11 @@ pub record EndsToolExactly (words : List (List ℕ)) (number : ℕ) : Type 0 whe
   pub no_geometry : (error : GeomError) (sectors size : ℕ) → IsNeed words sectors size → IsNoGeometry error sectors size → EndsWith number 6
   pub need : (geometry : Geometry) → IsNeed words geometry.sectors geometry.block_sectors → EndsWith number 0
 
--- A job is that of a tool that is served, and this number is one that it may end with where no count rises: its text was given, a check found a damage, memory was refused, or what it read or was told is refused.
+-- The numbers that a tool's run may end with where no count rises: its text was given; a line of a text that it reads was refused, or else a check found a damage; memory was refused; or what it read or was told is refused.
+abbrev pub IsQuiet : Job → ℕ → Type 0
+IsQuiet (job.Restore meta) number = (number ≡ 0) ⊎ ((number ≡ 3) ⊎ ((number ≡ 5) ⊎ (number ≡ 6)))
+IsQuiet other number = (number ≡ 0) ⊎ ((number ≡ 1) ⊎ ((number ≡ 5) ⊎ (number ≡ 6)))
+
+-- A tool that is served ends quietly, where no count rises.
 pub record EndsQuiet (words : List (List ℕ)) (number : ℕ) : Type 0 where
-  pub quiet : (job : Job) → IsTool job → (IsUnserved job → ⊥) → IsJob words job → (number ≡ 0) ⊎ ((number ≡ 1) ⊎ ((number ≡ 5) ⊎ (number ≡ 6)))
+  pub quiet : (job : Job) → IsTool job → (IsUnserved job → ⊥) → IsJob words job → IsQuiet job number

@@ -13,7 +13,7 @@ ghost use Rattle.era_words.specs.Words.{texts_of};
 use crate::refusal::WordsRefusal;
 use era_base::{Bay, Sink, Source};
 use era_line::Part::Text;
-use era_tools::{Status, check, dump, invalidate, need, number, print};
+use era_tools::{Status, check, dump, invalidate, need, number, print, restore};
 use era_words::{Job, WordsError, read_words};
 use std::alloc::Global;
 
@@ -45,7 +45,6 @@ fn do_job<S: Source, K: Sink, B: Bay>(
         job.now result }
     ensures sink { HasSinkCause (K.faults sink.old) (K.faults sink.new) result }
 {
-    let _ = source;
     match job {
         Job::Need {
             sectors,
@@ -56,9 +55,8 @@ fn do_job<S: Source, K: Sink, B: Bay>(
             invalidate(alloc, meta.as_str(), *since, *snap, sink, bay)
         }
         Job::Dump { meta, logical } => dump(alloc, meta.as_str(), *logical, sink, bay),
-        Job::Restore { .. } | Job::Backup { .. } | Job::Apply { .. } => {
-            refuse_words(sink, WordsRefusal::NotYet)
-        }
+        Job::Restore { meta } => restore(alloc, meta.as_str(), source, sink, bay),
+        Job::Backup { .. } | Job::Apply { .. } => refuse_words(sink, WordsRefusal::NotYet),
         Job::Serve { .. } | Job::Load { .. } => refuse_words(sink, WordsRefusal::NoCommand),
     }
 }

@@ -12,7 +12,7 @@ returns-in-Ok-clause-told g c =
         are-geometry c.in-Ok.geometry c.args.sectors c.args.block_sectors same.0 same.1,
         need-is c.in-Ok.geometry c.args.sectors c.args.block_sectors c.need.result same.0 same.1 c.need.ensures,
       );
-      printed = rw c.from.ensures at c.print.ensures.printed;
+      printed = rw c.from.ensures at c.print_number.ensures.printed;
     }
 
 -- they are none

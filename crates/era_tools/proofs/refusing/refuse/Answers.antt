@@ -6,7 +6,7 @@ returns-in-SameDevice-clause-printed g c = rw c.in-SameDevice.is c.print.ensures
 
 -- an origin that is too small
 pub returns-in-OriginSmall-clause-printed : goal.returns-in-OriginSmall-clause-printed
-returns-in-OriginSmall-clause-printed g c = rw c.in-OriginSmall.is c.print-in-OriginSmall.ensures.printed
+returns-in-OriginSmall-clause-printed g c = rw c.in-OriginSmall.is c.print_numbers.ensures.printed
 
 -- no snapshot
 pub returns-in-NoSnap-clause-printed : goal.returns-in-NoSnap-clause-printed
@@ -14,7 +14,7 @@ returns-in-NoSnap-clause-printed g c = rw c.in-NoSnap.is c.print-in-NoSnap.ensur
 
 -- an origin that failed
 pub returns-in-DataFault-clause-printed : goal.returns-in-DataFault-clause-printed
-returns-in-DataFault-clause-printed g c = rw c.in-DataFault.is c.print-in-DataFault.ensures.printed
+returns-in-DataFault-clause-printed g c = rw c.in-DataFault.is c.print_number-in-DataFault.ensures.printed
 
 -- memory that was refused
 pub returns-in-NoRoom-clause-printed : goal.returns-in-NoRoom-clause-printed

@@ -10,7 +10,7 @@ returns-clause-fault g c =
     (streams_around g.S.Source g.K.Sink c.args.source.now c.do_job.new.source c.args.sink.now c.do_job.new.sink)
     c.do_job.result c.args.job.now c.do_job.ensures.ran
 
--- the source is never the cause
+-- the source is the cause where it is read
 pub returns-clause-source : goal.returns-clause-source
 returns-clause-source g c =
     tool-source g.row.B-D.Denot g.B.D.Disk (bay_around g.B.Bay c.args.bay.now c.do_job.new.bay)

@@ -4,7 +4,7 @@ use Rattle.era_tools.specs.Refusals.{refusal_status, refusal_text}
 use Rattle.era_top.specs.Around.{streams_around}
 use Rattle.era_top.specs.Reports.{Refuses}
 use Rattle.era_top.proofs.Causes.{printed-fault}
-use Rattle.era_top.proofs.Serving.{BayBetween, served-reports, served-fault, served-source, served-returned}
+use Rattle.era_top.proofs.Serving.{served-reports, served-fault, served-source, served-returned}
 use Rattle.era_top.proofs.ToolEnds.{none-returned, refused-no_source}
 use Rattle.era_top.proofs.top.run_serve.Goals as goal
 
