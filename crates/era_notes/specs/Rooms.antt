@@ -10,6 +10,11 @@ abbrev pub entries_in : Chunks → List Entry
 entries_in Start = []
 entries_in (After' entries link before) = entries_in before ++ entries.items
 
+-- The entries of the last chunk, in order: those that were pushed since its room was admitted.
+abbrev pub last_in : Chunks → List Entry
+last_in Start = []
+last_in (After' entries link before) = entries.items
+
 -- How many entries the last chunk has room for.
 abbrev pub free_in : Chunks → ℕ
 free_in Start = 0

@@ -1,7 +1,7 @@
 //! The memory of one command, which is taken before the command begins.
 
-ghost use Rattle.std.specs.Prelude.{◌≡◌, ◌≤◌, Some, IfOk, vec_len};
-ghost use Rattle.era_notes.specs.Rooms.{entries_in, free_in};
+ghost use Rattle.std.specs.Prelude.{◌≡◌, ◌≤◌, [], Some, IfOk, vec_len};
+ghost use Rattle.era_notes.specs.Rooms.{entries_in, free_in, last_in};
 ghost use Rattle.era_notes.specs.declared.room.TheConstants.{ROOM_ENTRIES};
 
 use crate::buffers::Buffers;
@@ -60,6 +60,7 @@ impl Room {
     /// Gives the room for entries to a list of chunks, and hands the buffers out. It takes no memory.
     pub fn admit(self, chunks: &mut Chunks) -> Buffers
         ensures entries { entries_in chunks.new ≡ entries_in chunks.old }
+        ensures last { last_in chunks.new ≡ [] }
         ensures room { ROOM_ENTRIES ≤ free_in chunks.new }
         ensures buffers { (vec_len result.payload ≡ self) × (vec_len result.spare ≡ self) }
     {
