@@ -83,15 +83,15 @@ pub act_sound : (n : ℕ) (a : Account) (x : Act) → IsSound n a → MayAct n a
 act_sound n a (stripe_drew k event) sound may = record {
   marks = sound.marks;
   past = sound.past;
-  switch = same_switch n a (after a (stripe_drew k event)) a.keeper.switched refl refl (λ off d lt none. drawn_none a k event d (λ id block era same go. clash go.switched off) none may.1) sound.switch;
+  switch = same_switch n a (after a (stripe_drew k event)) a.keeper.switched refl refl (λ off d lt none. drawn_none a k event d (λ id block era same go. clash go.switched off) none may.1.0) sound.switch;
   idle = λ d out.
       let was : (a.stripe d).inside ≡ false = sym (inside_same k event a.places d (a.stripe d)) ∙ out in
-      drawn_none a k event d (λ id block era same go. clash go.inside (subst (λ (j : ℕ). (a.stripe j).inside ≡ false) same was)) (sound.idle d was) may.1;
+      drawn_none a k event d (λ id block era same go. clash go.inside (subst (λ (j : ℕ). (a.stripe j).inside ≡ false) same was)) (sound.idle d was) may.1.0;
 }
 act_sound n a (keeper_drew event) sound may = record {
   marks = λ block era. marks_kept n a event sound block era ∙ sym (has_mark-behind block era a.keeper.entries (entry a.places event));
-  past = past_kept n a event sound may;
-  switch = switch_kept n a event sound may;
+  past = past_kept n a event sound may.0;
+  switch = switch_kept n a event sound may.0;
   idle = sound.idle;
 }
 act_sound n a (stay_began stay) sound may = record {

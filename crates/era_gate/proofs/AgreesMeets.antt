@@ -89,13 +89,13 @@ AreOwnActs of_block (act ∷ acts) = AreOwnActs of_block acts
 all-meet : (n : ℕ) (h : List Happening) (a : Account) (place : ℕ) (acts : List Act) → KeepsWrites n a → Agrees n h a → IsLegalFrom n a acts → AreOwnActs (stripe_now h) acts → AllMeetGate h (drawn place acts)
 all-meet n h a place [] keeps agrees legal own = tt
 all-meet n h a place (stripe_drew d event ∷ acts) keeps agrees legal own = (
-  drew-meets n h a d event agrees own.0 legal.0.1,
+  drew-meets n h a d event agrees own.0 legal.0.1.0,
   all-meet n (Happened event ∷ h) (after a (stripe_drew d event)) (place + 1) acts (act-keeps_writes n a (stripe_drew d event) keeps legal.0)
-      (drew-agrees n h a d event keeps agrees own.0 legal.0.1) legal.1 own.1,
+      (drew-agrees n h a d event keeps agrees own.0 legal.0.1.0) legal.1 own.1,
 )
 all-meet n h a place (keeper_drew event ∷ acts) keeps agrees legal own = (
-  kept-meets n h a event keeps agrees legal.0,
-  all-meet n (Happened event ∷ h) (after a (keeper_drew event)) (place + 1) acts (act-keeps_writes n a (keeper_drew event) keeps legal.0) (kept-agrees n h a event agrees legal.0) legal.1 own,
+  kept-meets n h a event keeps agrees legal.0.0,
+  all-meet n (Happened event ∷ h) (after a (keeper_drew event)) (place + 1) acts (act-keeps_writes n a (keeper_drew event) keeps legal.0) (kept-agrees n h a event agrees legal.0.0) legal.1 own,
 )
 all-meet n h a place (stay_began stay ∷ acts) keeps agrees legal own =
     all-meet n h (after a (stay_began stay)) place acts (act-keeps_writes n a (stay_began stay) keeps legal.0) (began-agrees n h a stay agrees) legal.1 own

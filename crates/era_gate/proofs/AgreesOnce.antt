@@ -141,7 +141,7 @@ count-below (suc n) test =
 
 -- each act keeps it
 pub act-keeps_writes : (n : ℕ) (a : Account) (x : Act) → KeepsWrites n a → MayAct n a x → KeepsWrites n (after a x)
-act-keeps_writes n a (stripe_drew k event) keeps may = drew-keeps_writes n a k event keeps may.0 may.1
+act-keeps_writes n a (stripe_drew k event) keeps may = drew-keeps_writes n a k event keeps may.0 may.1.0
 act-keeps_writes n a (keeper_drew event) keeps may = same-keeps_writes n a (after a (keeper_drew event)) (λ d. refl)
     (λ id had. has_go-drawn id event a.places (a.lane id.lane) ∙ or_right (is_go_of id event) (has_go id (a.lane id.lane)) had)
     (pending-drawn n event a.keeper.pending keeps.pending) keeps

@@ -203,7 +203,7 @@ clear_allows plan slots id p q index word so_far low is s ruled homes at small =
     let fits : Fits plan m' id (cleared_to (index + 1) v) = record {
       stripes = tt;
       keepers = (record { own = h.own; state = h.state; cleared = refl }, tt);
-      lanes = all_map _ _ q.lanes (λ p l. record { own = l.own; receipts = l.receipts }) fit.lanes;
+      lanes = all_map _ _ q.lanes (λ p l. record { own = l.own; low = l.low; receipts = l.receipts }) fit.lanes;
       floor = fit.floor;
       apart = tt;
       begun = fit.begun;

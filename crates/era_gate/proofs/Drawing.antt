@@ -27,7 +27,7 @@ use Rattle.era_gate.proofs.Accounts.{IsSound, inside_same, marked_switched}
 use Rattle.era_gate.proofs.Touching.{Owns}
 use Rattle.era_gate.proofs.Ascending.{next-place, stripe-next, keeper-next}
 use Rattle.era_gate.proofs.Fitting.{hidden_after}
-use Rattle.era_gate.proofs.Frames.{sound_of, act_moves, low_words, lane_owned}
+use Rattle.era_gate.proofs.Frames.{sound_of, act_moves, low_words, lane_low, lane_owned}
 
 -- a block that was seen is marked
 seen_marked : (inside : Bool) (marked : ℕ → Bool) (block : ℕ) (seen : List ℕ) → has_seen block seen ≡ true → Each (λ b. (inside ≡ true) × (marked b ≡ true)) seen → marked block ≡ true
@@ -138,7 +138,7 @@ draw_allows plan slots id p q event asks pass s ruled homes at small =
     let fit = st.views_fit id v at in
     let h = fit.stripes.0 in
     let x : Act = stripe_drew p.stripe event in
-    let may : MayAct plan.stripes m.account x = (h.low, stripe_may plan m id p q.lanes (sound_of plan s.words s.views m st) h fit.lanes event asks pass.0) in
+    let may : MayAct plan.stripes m.account x = (h.low, (stripe_may plan m id p q.lanes (sound_of plan s.words s.views m st) h fit.lanes event asks pass.0, lane_low m id (lane_of event) q.lanes pass.0 fit.lanes)) in
     let owns : Owns m id x = record {
       stripes = λ d is. ap m.stripe_owner (eqb-true d p.stripe is) ∙ h.own;
       keeper = λ never. absurd (clash never refl);
@@ -168,7 +168,7 @@ keeper_draw_allows plan slots id p q event asks pass s ruled homes at small =
     let fit = st.views_fit id v at in
     let h = fit.keepers.0 in
     let x : Act = keeper_drew event in
-    let may : MayAct plan.stripes m.account x = keeper_may plan.stripes m.account p (sound_of plan s.words s.views m st) h.state event asks in
+    let may : MayAct plan.stripes m.account x = (keeper_may plan.stripes m.account p (sound_of plan s.words s.views m st) h.state event asks, lane_low m id (lane_of event) q.lanes pass.0 fit.lanes) in
     let owns : Owns m id x = record {
       stripes = λ d never. absurd (clash never refl);
       keeper = λ on. h.own;

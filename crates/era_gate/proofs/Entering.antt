@@ -19,7 +19,7 @@ use Rattle.era_gate.specs.Plays.{Enters, Leaves, entered, left}
 use Rattle.era_gate.proofs.Choices.{at_cond, self_eq, clash, count_more, count_below}
 use Rattle.era_gate.proofs.Touching.{Owns}
 use Rattle.era_gate.proofs.Fitting.{hidden_after}
-use Rattle.era_gate.proofs.Frames.{act_moves, low_words, lane_owned}
+use Rattle.era_gate.proofs.Frames.{act_moves, low_words, lane_low, lane_owned}
 
 -- lanes for which an act has no receipt
 pub same_lanes : (x : Act) (place : ℕ) (parts : List LanePart) → ((l : ℕ) (rs : List Receipt) → receipts_after x place l rs ≡ rs) → map (lane_part_after x place) parts ≡ parts
@@ -46,7 +46,7 @@ enter_allows plan slots id p q cmd out lane s ruled homes at small =
     let x : Act = stay_began stay in
     let k : ℕ = p.stripe in
     let outside : (m.account.stripe k).inside ≡ false = ap (λ (t : StripeState). t.inside) h.state ∙ out in
-    let may : MayAct plan.stripes m.account x = record { low = h.low; outside = outside; number = ap (λ (t : StripeState). length t.stays) (sym h.state); floor = fit.floor } in
+    let may : MayAct plan.stripes m.account x = record { low = h.low; outside = outside; number = ap (λ (t : StripeState). length t.stays) (sym h.state); floor = fit.floor; lane = lane_low m id cmd.lane q.lanes lane fit.lanes } in
     let now : inside_of (after m.account x) k ≡ true = ap (λ b. (cond b (stripe_in stay (m.account.stripe k)) (m.account.stripe k)).inside) (self_eq k) in
     let others : (d : ℕ) → d ≢ k → inside_of (after m.account x) d ≡ inside_of m.account d = λ d other.
     at_cond (λ (t : StripeState). t.inside ≡ (m.account.stripe d).inside) (d == k) (stripe_in stay (m.account.stripe d)) (m.account.stripe d) (λ on. absurd (other (eqb-true d k on))) (λ off. refl) in

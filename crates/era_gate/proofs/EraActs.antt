@@ -41,8 +41,8 @@ stay-keeps a b places era marked kept entries flight receipts keeps = record {
 
 -- each act keeps all this
 act-keeps_eras : (n : ℕ) (a : Account) (x : Act) → KeepsWrites n a → KeepsEras a → MayAct n a x → KeepsEras (after a x)
-act-keeps_eras n a (stripe_drew k event) writes keeps may = drew-keeps a k event keeps may.1
-act-keeps_eras n a (keeper_drew event) writes keeps may = kept-keeps n a event writes keeps may
+act-keeps_eras n a (stripe_drew k event) writes keeps may = drew-keeps a k event keeps may.1.0
+act-keeps_eras n a (keeper_drew event) writes keeps may = kept-keeps n a event writes keeps may.0
 act-keeps_eras n a (stay_began stay) writes keeps may = stay-keeps a (after a (stay_began stay)) refl refl refl refl
     (λ d. cond_both (d == stay.stripe) (stripe_in stay (a.stripe d)) (a.stripe d) (λ (s : StripeState). s.entries ≡ (a.stripe d).entries) (λ on. refl) (λ off. refl))
     (λ d. cond_both (d == stay.stripe) (stripe_in stay (a.stripe d)) (a.stripe d) (λ (s : StripeState). s.flight ≡ (a.stripe d).flight) (λ on. refl) (λ off. refl))

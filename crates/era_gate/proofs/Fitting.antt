@@ -99,7 +99,7 @@ pub fits_here : (plan : Plan) (m : Hidden) (id : ℕ) (x : Act) (e : ℕ) (v : V
 fits_here plan m id x e v fit may here = record {
   stripes = all_mapped (StripeFits plan m id) (StripeFits plan (hidden_after m x) id) (stripe_part_after x m.account.places e) v.stripes (λ p h. stripe_fits p h) fit.stripes;
   keepers = all_mapped (KeeperFits m id) (KeeperFits (hidden_after m x) id) (keeper_part_after x m.account.places) v.keepers (λ p h. record { own = h.own; state = ap (keeper_after x m.account.places) h.state; cleared = ap (cleared_after x) h.cleared }) fit.keepers;
-  lanes = all_mapped (LaneFits m id) (LaneFits (hidden_after m x) id) (lane_part_after x m.account.places) v.pass.lanes (λ p h. record { own = h.own; receipts = ap (receipts_after x m.account.places p.lane) h.receipts }) fit.lanes;
+  lanes = all_mapped (LaneFits m id) (LaneFits (hidden_after m x) id) (lane_part_after x m.account.places) v.pass.lanes (λ p h. record { own = h.own; low = h.low; receipts = ap (receipts_after x m.account.places p.lane) h.receipts }) fit.lanes;
   floor = floor_here x m.account.places v.pass.floor fit.floor;
   apart = still_distinct x m.account.places e v.stripes fit.apart;
   begun = λ d. begun_here plan.stripes m.account x d v.pass.begun may (fit.begun d);
@@ -125,7 +125,7 @@ pub fits_else : (plan : Plan) (m : Hidden) (id j : ℕ) (x : Act) (v : View) →
 fits_else plan m id j x v fit may owns other = record {
   stripes = all_map (StripeFits plan m j) (StripeFits plan (hidden_after m x) j) v.stripes (λ p h. stripe_fits p h) fit.stripes;
   keepers = all_map (KeeperFits m j) (KeeperFits (hidden_after m x) j) v.keepers (λ p h. keeper_fits p h) fit.keepers;
-  lanes = all_map (LaneFits m j) (LaneFits (hidden_after m x) j) v.pass.lanes (λ p h. record { own = h.own; receipts = lane_same x m.account.places p.lane (m.account.lane p.lane) (untouched (touches_lane x p.lane) (m.lane_owner p.lane) id j (owns.lanes p.lane) h.own other) ∙ h.receipts }) fit.lanes;
+  lanes = all_map (LaneFits m j) (LaneFits (hidden_after m x) j) v.pass.lanes (λ p h. record { own = h.own; low = h.low; receipts = lane_same x m.account.places p.lane (m.account.lane p.lane) (untouched (touches_lane x p.lane) (m.lane_owner p.lane) id j (owns.lanes p.lane) h.own other) ∙ h.receipts }) fit.lanes;
   floor = let more = places_more x m.account.places in let low = fit.floor in omega arith;
   apart = fit.apart;
   begun = λ d. let low = fit.begun d in let more = stays_more x m.account.places d (m.account.stripe d) in omega arith;

@@ -146,7 +146,7 @@ view_moves plan words words' views m cleared id v w st at own fit spent stripes 
   still j u h other = record {
     stripes = all_map (StripeFits plan m j) (StripeFits plan m' j) u.stripes (λ p s. record { own = s.own; low = s.low; state = s.state; era = s.era; seen = s.seen }) h.stripes;
     keepers = all_map (KeeperFits m j) (KeeperFits m' j) u.keepers (λ p k. still_keeper j p other k) h.keepers;
-    lanes = all_map (LaneFits m j) (LaneFits m' j) u.pass.lanes (λ p l. record { own = l.own; receipts = l.receipts }) h.lanes;
+    lanes = all_map (LaneFits m j) (LaneFits m' j) u.pass.lanes (λ p l. record { own = l.own; low = l.low; receipts = l.receipts }) h.lanes;
     floor = h.floor;
     apart = h.apart;
     begun = h.begun;
@@ -159,4 +159,12 @@ lane_owned m id l [] has fit = absurd (clash has refl)
 lane_owned m id l (part ∷ parts) has fit = ⊎_elim
     (λ here. ap m.lane_owner (eqb-true l part.lane here) ∙ fit.0.own)
     (λ rest. lane_owned m id l parts rest fit.1)
+    (or_cases (l == part.lane) (has_lane l parts) has)
+
+-- it is one of 65
+pub lane_low : (m : Hidden) (id l : ℕ) (parts : List LanePart) → has_lane l parts ≡ true → Each (LaneFits m id) parts → l < 65
+lane_low m id l [] has fit = absurd (clash has refl)
+lane_low m id l (part ∷ parts) has fit = ⊎_elim
+    (λ here. subst (λ (k : ℕ). k < 65) (sym (eqb-true l part.lane here)) fit.0.low)
+    (λ rest. lane_low m id l parts rest fit.1)
     (or_cases (l == part.lane) (has_lane l parts) has)

@@ -38,10 +38,10 @@ front-none id e0 es e first rest is of = elim (front-cases e0 es e is) [
 none-later : (n : ℕ) (id : CmdId) (a : Account) (acts : List Act) (e : Entry) → has_go id (a.lane id.lane) ≡ true → IsLegalFrom n a acts → Contains (drawn a.places acts) e → is_go_of id e.event ≡ true → ⊥
 none-later n id a [] e gone legal is of = absurd (not-in_none e is)
 none-later n id a (stripe_drew k event ∷ acts) e gone legal is of = front-none id (entry a.places event) (drawn (a.places + 1) acts) e
-    (λ go. clash gone (unissued a k event id legal.0.1 go))
+    (λ go. clash gone (unissued a k event id legal.0.1.0 go))
     (none-later n id (after a (stripe_drew k event)) acts e (has_go-drawn id event a.places (a.lane id.lane) ∙ still (is_go_of id event) (has_go id (a.lane id.lane)) gone) legal.1) is of
 none-later n id a (keeper_drew event ∷ acts) e gone legal is of = front-none id (entry a.places event) (drawn (a.places + 1) acts) e
-    (λ go. clash gone (keeper-none n a event id legal.0 go))
+    (λ go. clash gone (keeper-none n a event id legal.0.0 go))
     (none-later n id (after a (keeper_drew event)) acts e (has_go-drawn id event a.places (a.lane id.lane) ∙ still (is_go_of id event) (has_go id (a.lane id.lane)) gone) legal.1) is of
 none-later n id a (stay_began stay ∷ acts) e gone legal is of = none-later n id (after a (stay_began stay)) acts e (has_go-begun id (id.lane == stay.id.lane) (a.lane id.lane) (OfStay stay) refl ∙ gone) legal.1 is of
 none-later n id a (stay_ended k begun ∷ acts) e gone legal is of = none-later n id (after a (stay_ended k begun)) acts e gone legal.1 is of

@@ -63,8 +63,8 @@ module _ (plan : Plan) (m : Hidden) (id other : ℕ) (w : View) where
         (all_map (KeeperFits m id) _ v.keepers (λ p h. record { own = kept (has_keeper w.keepers) m.keeper_owner h.own; state = h.state; cleared = h.cleared }) fit.keepers)
         (all_map _ _ w.keepers (λ p (h : KeeperFits m other p × (has_keeper w.keepers ≡ true)). record { own = ap (λ b. cond b id m.keeper_owner) h.1; state = h.0.state; cleared = h.0.cleared }) (both_of (KeeperFits m other) _ w.keepers fit'.keepers (among_keepers w.keepers)));
     lanes = merge.lanes (LaneFits hidden_join id)
-        (all_map (LaneFits m id) _ v.pass.lanes (λ p h. record { own = kept (has_lane p.lane w.pass.lanes) (m.lane_owner p.lane) h.own; receipts = h.receipts }) fit.lanes)
-        (all_map _ _ w.pass.lanes (λ p (h : LaneFits m other p × (has_lane p.lane w.pass.lanes ≡ true)). record { own = ap (λ b. cond b id (m.lane_owner p.lane)) h.1; receipts = h.0.receipts }) (both_of (LaneFits m other) _ w.pass.lanes fit'.lanes (among_lanes w.pass.lanes)));
+        (all_map (LaneFits m id) _ v.pass.lanes (λ p h. record { own = kept (has_lane p.lane w.pass.lanes) (m.lane_owner p.lane) h.own; low = h.low; receipts = h.receipts }) fit.lanes)
+        (all_map _ _ w.pass.lanes (λ p (h : LaneFits m other p × (has_lane p.lane w.pass.lanes ≡ true)). record { own = ap (λ b. cond b id (m.lane_owner p.lane)) h.1; low = h.0.low; receipts = h.0.receipts }) (both_of (LaneFits m other) _ w.pass.lanes fit'.lanes (among_lanes w.pass.lanes)));
     floor = merge.floor m.account.places fit.floor fit'.floor;
     apart = merge.distinct fit.apart fit'.apart (λ d has. apart_from d (has_stripe d w.stripes) refl has);
     begun = λ d. merge.begun d (length (m.account.stripe d).stays) (fit.begun d) (fit'.begun d);
@@ -95,7 +95,7 @@ module _ (plan : Plan) (m : Hidden) (id other : ℕ) (w : View) where
   other_fits j u mine fit differs = record {
     stripes = all_map (StripeFits plan m j) (StripeFits plan hidden_join j) u.stripes (λ p h. record { own = elsewhere (has_stripe p.stripe w.stripes) (m.stripe_owner p.stripe) j (λ on. stripe_owned plan m other p.stripe w.stripes on mine.stripes) h.own differs; low = h.low; state = h.state; era = h.era; seen = h.seen }) fit.stripes;
     keepers = all_map (KeeperFits m j) (KeeperFits hidden_join j) u.keepers (λ p h. record { own = elsewhere (has_keeper w.keepers) m.keeper_owner j (λ on. keeper_owned m other w.keepers on mine.keepers) h.own differs; state = h.state; cleared = h.cleared }) fit.keepers;
-    lanes = all_map (LaneFits m j) (LaneFits hidden_join j) u.pass.lanes (λ p h. record { own = elsewhere (has_lane p.lane w.pass.lanes) (m.lane_owner p.lane) j (λ on. lane_owned m other p.lane w.pass.lanes on mine.lanes) h.own differs; receipts = h.receipts }) fit.lanes;
+    lanes = all_map (LaneFits m j) (LaneFits hidden_join j) u.pass.lanes (λ p h. record { own = elsewhere (has_lane p.lane w.pass.lanes) (m.lane_owner p.lane) j (λ on. lane_owned m other p.lane w.pass.lanes on mine.lanes) h.own differs; low = h.low; receipts = h.receipts }) fit.lanes;
     floor = fit.floor;
     apart = fit.apart;
     begun = fit.begun;

@@ -1,15 +1,16 @@
 -- A lane's receipts are the entries of its commands and their stays, each once and in order.
-use Rattle.std.proofs.Common.{◌≡◌, ℕ, ◌+◌, ◌==◌, cond, Bool, true, false, List, [], ◌∷◌, ◌++◌, append_assoc, refl, sym, ap, ◌∙◌}
+use Rattle.std.proofs.Common.{◌≡◌, ℕ, ◌+◌, ◌<◌, ◌==◌, cond, Bool, true, false, List, [], ◌∷◌, ◌++◌, append_assoc, refl, sym, ap, ◌∙◌}
 use Rattle.std.proofs.lemmas.Bool.{cond_both}
 use Rattle.std.proofs.lemmas.List.{append-nil}
-use Rattle.std.proofs.lemmas.List.Elements.{filter-append}
+use Rattle.std.proofs.lemmas.List.Elements.{All-cons, All-nil, filter-append}
+use Rattle.std.specs.Prelude.{All}
 use Rattle.era_model.specs.declared.entry.Entry.{Entry}
 use Rattle.era_model.specs.declared.event.Event.{Event}
 use Rattle.era_gate.specs.declared.states.StripeState.{StripeState}
 use Rattle.era_gate.specs.declared.stays.Receipt.{Receipt}
 use Rattle.era_gate.specs.declared.stays.Receipt.TheVariants.{OfEvent, OfStay}
 use Rattle.era_gate.specs.declared.stays.Stay.{Stay}
-use Rattle.era_gate.specs.Acts.{Act, Account, stripe_drew, keeper_drew, stay_began, stay_ended, era_moved, exchange_failed, after, reach, opened, entry, lane_of, stripe_with, stripe_in, stripe_out}
+use Rattle.era_gate.specs.Acts.{Act, Account, stripe_drew, keeper_drew, stay_began, stay_ended, era_moved, exchange_failed, IsLegalFrom, after, reach, opened, entry, lane_of, stripe_with, stripe_in, stripe_out}
 use Rattle.era_gate.specs.Drawn.{drawn}
 use Rattle.era_gate.specs.Loose.{stays_of}
 use Rattle.era_gate.specs.Receipts.{entries_in, stays_in, entries_for, stays_for, stays_at}
@@ -99,3 +100,21 @@ opened-entries l era acts = lane-entries l (opened era) acts
 
 pub opened-stays : (l d era : ℕ) (acts : List Act) → stays_at d (stays_in ((reach (opened era) acts).lane l)) ≡ stays_for l (stays_of (reach (opened era) acts) d)
 opened-stays l d era acts = lane-stays l d (opened era) acts refl
+
+-- what legal acts draw is of one of 65 lanes
+abbrev pub IsLow : Entry → Type 0
+IsLow e = lane_of e.event < 65
+
+drawn-low : (n place : ℕ) (a : Account) (acts : List Act) → IsLegalFrom n a acts → All IsLow (drawn place acts)
+drawn-low n place a [] legal = All-nil IsLow
+drawn-low n place a (stripe_drew k event ∷ acts) legal =
+    All-cons IsLow (entry place event) (drawn (place + 1) acts) legal.0.1.1 (drawn-low n (place + 1) (after a (stripe_drew k event)) acts legal.1)
+drawn-low n place a (keeper_drew event ∷ acts) legal =
+    All-cons IsLow (entry place event) (drawn (place + 1) acts) legal.0.1 (drawn-low n (place + 1) (after a (keeper_drew event)) acts legal.1)
+drawn-low n place a (stay_began stay ∷ acts) legal = drawn-low n place (after a (stay_began stay)) acts legal.1
+drawn-low n place a (stay_ended k begun ∷ acts) legal = drawn-low n place (after a (stay_ended k begun)) acts legal.1
+drawn-low n place a (era_moved ∷ acts) legal = drawn-low n place (after a era_moved) acts legal.1
+drawn-low n place a (exchange_failed miss ∷ acts) legal = drawn-low n place (after a (exchange_failed miss)) acts legal.1
+
+pub opened-low : (n era : ℕ) (acts : List Act) → IsLegalFrom n (opened era) acts → All IsLow (drawn 0 acts)
+opened-low n era acts legal = drawn-low n 0 (opened era) acts legal

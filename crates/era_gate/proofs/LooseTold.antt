@@ -118,7 +118,7 @@ act-keeps_stays n a (stripe_drew k event) keeps may =
     let same = λ (d : ℕ). cond_both (d == k) (stripe_with event a.places (a.stripe d)) (a.stripe d) (λ (s : StripeState). s.stays ≡ stays_of a d) (λ on. refl) (λ off. refl) in
     other-keeps n a (after a (stripe_drew k event)) (omega arith) (same-grow (stays_of a) (stays_of (after a (stripe_drew k event))) same)
     (λ d. rw (same d) (AreStaysOf-later d a.places (a.places + 1) 0 (stays_of a d) (omega arith) (keeps.stays d))) refl refl refl keeps
-act-keeps_stays n a (keeper_drew event) keeps may = keeper-keeps n a event keeps may
+act-keeps_stays n a (keeper_drew event) keeps may = keeper-keeps n a event keeps may.0
 act-keeps_stays n a (stay_began stay) keeps may = other-keeps n a (after a (stay_began stay)) (omega arith) (begun-grow a stay) (begun-stays n a stay keeps may) refl refl refl keeps
 act-keeps_stays n a (stay_ended k begun) keeps may =
     let same = λ (d : ℕ). cond_both (d == k) (stripe_out (a.stripe d)) (a.stripe d) (λ (s : StripeState). s.stays ≡ stays_of a d) (λ on. refl) (λ off. refl) in

@@ -75,15 +75,15 @@ each_new : (plan : Plan) (i c : ℕ) → i + c ≤ plan.stripes → Each (Stripe
 each_new plan i zero low = tt
 each_new plan i (suc c) low = (record { own = refl; low = omega arith; state = refl; era = λ inside. absurd (clash inside refl); seen = tt }, each_new plan (i + 1) c (omega arith))
 
-each_lane : (plan : Plan) (i c : ℕ) → Each (LaneFits (first_hidden plan) 0) (tabulate i c new_lane)
-each_lane plan i zero = tt
-each_lane plan i (suc c) = (record { own = refl; receipts = refl }, each_lane plan (i + 1) c)
+each_lane : (plan : Plan) (i c : ℕ) → i + c ≤ 65 → Each (LaneFits (first_hidden plan) 0) (tabulate i c new_lane)
+each_lane plan i zero low = tt
+each_lane plan i (suc c) low = (record { own = refl; low = omega (arith, low); receipts = refl }, each_lane plan (i + 1) c (omega (arith, low)))
 
 first_fits : (plan : Plan) → Fits plan (first_hidden plan) 0 (first_view plan)
 first_fits plan = record {
   stripes = each_new plan 0 plan.stripes (omega arith);
   keepers = (record { own = refl; state = refl; cleared = refl }, tt);
-  lanes = each_lane plan 0 65;
+  lanes = each_lane plan 0 65 (omega arith);
   floor = omega arith;
   apart = all_distinct 0 plan.stripes;
   begun = λ d. omega arith;

@@ -121,10 +121,10 @@ module _ (plan : Plan) (m : Hidden) (new : ℕ) (right : View) where
   keeper_goes j p h on = record { own = ap (λ b. cond b new m.keeper_owner) on; state = h.state; cleared = h.cleared }
 
   lane_stays : (j : ℕ) (p : LanePart) → LaneFits m j p → has_lane p.lane right.pass.lanes ≡ false → LaneFits hidden_split j p
-  lane_stays j p h off = record { own = ap (λ b. cond b new (m.lane_owner p.lane)) off ∙ h.own; receipts = h.receipts }
+  lane_stays j p h off = record { own = ap (λ b. cond b new (m.lane_owner p.lane)) off ∙ h.own; low = h.low; receipts = h.receipts }
 
   lane_goes : (j : ℕ) (p : LanePart) → LaneFits m j p → has_lane p.lane right.pass.lanes ≡ true → LaneFits hidden_split new p
-  lane_goes j p h on = record { own = ap (λ b. cond b new (m.lane_owner p.lane)) on; receipts = h.receipts }
+  lane_goes j p h on = record { own = ap (λ b. cond b new (m.lane_owner p.lane)) on; low = h.low; receipts = h.receipts }
 
   -- the side that the seat keeps
   left_fits : (id : ℕ) (v left : View) → Cut v left right → Fits plan m id v → Fits plan hidden_split id left

@@ -169,12 +169,13 @@ KeeperMayDraw n a (Status id used total era held) = Unit {0}
 KeeperMayDraw n a (Refused id kind why) = Unit {0}
 KeeperMayDraw n a event = ⊥
 
--- A stay begins at a stripe that is outside, with that stripe's next number, and a floor that the order word has reached.
+-- A stay begins at a stripe that is outside, with that stripe's next number, and a floor that the order word has reached, by a command of one of the gate's 65 lanes.
 pub record MayBegin (n : ℕ) (a : Account) (stay : Stay) : Type 0 where
   pub low : stay.stripe < n
   pub outside : (a.stripe stay.stripe).inside ≡ false
   pub number : stay.number ≡ length (a.stripe stay.stripe).stays
   pub floor : stay.floor ≤ a.places
+  pub lane : stay.id.lane < 65
 
 -- A stay ends where its stripe is inside without an open write.
 pub record MayEnd (n : ℕ) (a : Account) (d begun : ℕ) : Type 0 where
@@ -194,10 +195,10 @@ pub record MayFail (n : ℕ) (a : Account) (miss : Miss) : Type 0 where
   pub some : 0 < miss.found
   pub loose : (d : ℕ) → d < n → (a.stripe d).inside ≡ true → slice_index miss.ended d < length (a.stripe d).stays
 
--- What an act asks of the account before it, in a gate of n stripes.
+-- What an act asks of the account before it, in a gate of n stripes. What is drawn is drawn by a command of one of the gate's 65 lanes.
 abbrev pub MayAct : ℕ → Account → Act → Type 0
-MayAct n a (stripe_drew d event) = (d < n) × StripeMayDraw a d event
-MayAct n a (keeper_drew event) = KeeperMayDraw n a event
+MayAct n a (stripe_drew d event) = (d < n) × (StripeMayDraw a d event × (lane_of event < 65))
+MayAct n a (keeper_drew event) = KeeperMayDraw n a event × (lane_of event < 65)
 MayAct n a (stay_began stay) = MayBegin n a stay
 MayAct n a (stay_ended d begun) = MayEnd n a d begun
 MayAct n a era_moved = MayMove n a

@@ -8,6 +8,7 @@ pub mod Gathered
 pub mod Loose
 pub mod ModelLaw
 pub mod Receipts
+pub mod Requests
 pub mod RowsOfActs
 pub mod Parts
 pub mod Rule

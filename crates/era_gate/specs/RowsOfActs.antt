@@ -47,6 +47,10 @@ groundless_acts = keeper_drew (Kept (command 1) 1) ∷ []
 abbrev pub vain_acts : List Act
 vain_acts = exchange_failed (record { found = 0; ended = [] }) ∷ []
 
+-- A mark is asked for by a command of a lane that no gate has.
+abbrev pub stranger_acts : List Act
+stranger_acts = keeper_drew (Tried (record { lane = 65; number = 0 }) 0 1) ∷ []
+
 -- Two stays of stripe 0, of which the second has floor 3, and one of stripe 1.
 abbrev pub few_stays : ℕ → List Stay
 few_stays zero = stay_at 0 0 0 ∷ stay_at 0 1 3 ∷ []

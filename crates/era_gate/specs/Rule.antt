@@ -64,9 +64,10 @@ pub record KeeperFits (m : Hidden) (id : ℕ) (part : KeeperPart) : Type 0 where
   pub state : m.account.keeper ≡ part.state
   pub cleared : m.cleared ≡ part.cleared
 
--- A lane in a view has the account's receipts, and stands in this view alone.
+-- A lane in a view is one of 65, has the account's receipts, and stands in this view alone.
 pub record LaneFits (m : Hidden) (id : ℕ) (part : LanePart) : Type 0 where
   pub own : m.lane_owner part.lane ≡ id
+  pub low : part.lane < 65
   pub receipts : m.account.lane part.lane ≡ part.receipts
 
 -- A view fits: each of its parts does, no stripe stands in it twice, its floor is past, and the stays that it knows have begun, or ended.

@@ -1,7 +1,7 @@
 //! What legal acts are worth to who gathers the journal. The functions do nothing; their clauses are the laws.
 
-ghost use Rattle.std.specs.Prelude.{◌≡◌, ◌≢◌, ◌≤◌, ℕ, All, Contains, List, [], ◌∷◌, length, map};
-ghost use Rattle.era_gate.specs.Acts.{Act, IsLegalFrom, opened, reach};
+ghost use Rattle.std.specs.Prelude.{◌≡◌, ◌≢◌, ◌<◌, ◌≤◌, ℕ, All, Contains, List, [], ◌∷◌, length, map};
+ghost use Rattle.era_gate.specs.Acts.{Act, IsLegalFrom, lane_of, opened, reach};
 ghost use Rattle.era_gate.specs.Drawn.{drawn, drawn_by_keeper, drawn_by_stripe};
 ghost use Rattle.era_gate.specs.Eras.{MarkPrecedesWrite, WriteBeginsInEra, WriteEndsInEra};
 ghost use Rattle.era_gate.specs.Gathered.{AllMeetRest, AreActsOf, AreGathered, AscendFrom, IsOfDrawer, account_of};
@@ -111,13 +111,16 @@ pub fn writes_stay_in_their_era()
         → WriteEndsInEra (reach (opened era) acts) d }
 {}
 
-/// The receipts of a lane are just the entries of its commands, by place, and their stays, each once and in order.
+/// The receipts of a lane are just the entries of its commands, by place, and their stays, each once and in order. What
+/// legal acts draw is of one of 65 lanes.
 pub fn lanes_have_their_receipts()
     ensures entries { (l era : ℕ) (acts : List Act)
         → entries_in ((reach (opened era) acts).lane l) ≡ entries_for l (drawn 0 acts) }
     ensures stays { (l d era : ℕ) (acts : List Act)
         → stays_at d (stays_in ((reach (opened era) acts).lane l))
         ≡ stays_for l (stays_of (reach (opened era) acts) d) }
+    ensures few { (n era : ℕ) (acts : List Act) → IsLegalFrom n (opened era) acts
+        → All (λ (entry : Entry). lane_of entry.event < 65) (drawn 0 acts) }
 {}
 
 /// Each refused switch tells of one failed exchange, whose count it has, and in order. No exchange found more stripes
