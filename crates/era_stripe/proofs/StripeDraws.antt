@@ -6,7 +6,7 @@ use Rattle.era_gate.specs.Passes.{KeepsPass, no_write}
 use Rattle.era_gate.specs.StateAfter.{entry}
 use Rattle.era_model.specs.declared.entry.Entry.{Entry}
 use Rattle.era_model.specs.declared.event.Event.{Event}
-use Rattle.era_notes.specs.Rooms.{entries_in, free_in}
+use Rattle.era_notes.specs.Rooms.{entries_in, free_in, last_in}
 use Rattle.era_stripe.specs.declared.stripe.Stripe.{Stripe}
 use Rattle.era_stripe.specs.Calls.{Drew, DrewOne}
 
@@ -26,7 +26,7 @@ keeps-then drawn more issued a b c one two = record {
 pub drew-one : {D : Type 0} (old new : Stripe D) (pass pass' : PassToken) (event : Event) (place : ℕ) (issued : CmdId → Bool) → entries_in new.entries ≡ entries_in old.entries ++ entry place event ∷ []
     → DrewOne event place issued old.seat.part old.entries new.entries pass pass' → Drew (event ∷ []) issued old new pass pass'
 drew-one old new pass pass' event place issued kept did = record {
-  kept = record { entries = entry place event ∷ []; are = refl; kept = kept; ascend = (did.next.floor, tt); room = sym did.room };
+  kept = record { entries = entry place event ∷ []; are = refl; kept = kept; last = did.last; ascend = (did.next.floor, tt); room = sym did.room };
   receipts = did.lanes;
   keeps = did.keeps;
 }
@@ -40,6 +40,7 @@ drew-two old one new pass mid pass' first second p q issued kept did is kept' di
     entries = entry p first ∷ entry q second ∷ [];
     are = refl;
     kept = kept' ∙ ap (λ entries. entries ++ entry q second ∷ []) kept ∙ append_assoc (entries_in old.entries) (entry p first ∷ []) (entry q second ∷ []);
+    last = did'.last ∙ ap (λ entries. entries ++ entry q second ∷ []) did.last ∙ append_assoc (last_in old.entries) (entry p first ∷ []) (entry q second ∷ []);
     ascend = (did.next.floor, (omega (arith, did'.next.floor, ap (λ part. part.floor) is), tt));
     room = omega (arith, did'.room, did.room);
   };
@@ -55,6 +56,7 @@ drew-from old mid new pass pass' events issued same drew = record {
     entries = drew.kept.entries;
     are = drew.kept.are;
     kept = drew.kept.kept ∙ ap (λ entries. entries_in entries ++ drew.kept.entries) same;
+    last = drew.kept.last ∙ ap (λ entries. last_in entries ++ drew.kept.entries) same;
     ascend = drew.kept.ascend;
     room = sym (ap free_in same) ∙ drew.kept.room;
   };
@@ -69,7 +71,7 @@ append-none (entry ∷ entries) = ap (λ es. entry ∷ es) (append-none entries)
 
 pub drew-none : {D : Type 0} (old new : Stripe D) (pass pass' : PassToken) → new.entries ≡ old.entries → pass'.part.lanes ≡ pass.part.lanes → KeepsPass 0 no_write pass pass' → Drew [] no_write old new pass pass'
 drew-none old new pass pass' same lanes keeps = record {
-  kept = record { entries = []; are = refl; kept = ap entries_in same ∙ append-none (entries_in old.entries); ascend = tt; room = omega (arith, ap free_in same) };
+  kept = record { entries = []; are = refl; kept = ap entries_in same ∙ append-none (entries_in old.entries); last = ap last_in same ∙ append-none (last_in old.entries); ascend = tt; room = omega (arith, ap free_in same) };
   receipts = lanes;
   keeps = keeps;
 }

@@ -12,7 +12,7 @@ use Rattle.era_gate.specs.declared.parts.StripePart.{StripePart}
 use Rattle.era_model.specs.declared.entry.Entry.{Entry}
 use Rattle.era_model.specs.declared.event.Event.{Event}
 use Rattle.era_notes.specs.Notes.{notes_of, first_device, last_faults, least_of}
-use Rattle.era_notes.specs.Rooms.{entries_in, free_in, HoldBytes}
+use Rattle.era_notes.specs.Rooms.{entries_in, free_in, last_in, HoldBytes}
 use Rattle.era_notes.specs.declared.chunks.Chunks.{Chunks}
 use Rattle.era_stripe.specs.declared.stripe.Stripe.{Stripe}
 use Rattle.era_notes.specs.Parts.{IsIn, IsPlace}
@@ -52,11 +52,12 @@ abbrev pub after_draws : PassPart → List Entry → PassPart
 after_draws pass [] = pass
 after_draws pass (entry ∷ entries) = after_draws (pass_draws pass entry.event entry.place) entries
 
--- A seat drew one event: its place is the next one for the seat, the pass has its receipt, and the chunks have room for one entry less.
+-- A seat drew one event: its place is the next one for the seat, the pass has its receipt, the entry is the latest of the last chunk, and the chunks have room for one entry less.
 pub record DrewOne (event : Event) (place : ℕ) (issued : CmdId → Bool) (seat : StripePart) (old new : Chunks) (pass pass' : PassToken) : Type 0 where
   pub next : IsNextPlace place pass.part.floor seat.state.entries (seat.state.entries ++ entry place event ∷ [])
   pub lanes : pass'.part.lanes ≡ (pass_draws pass.part event place).lanes
   pub keeps : KeepsPass 1 issued pass pass'
+  pub last : last_in new ≡ last_in old ++ entry place event ∷ []
   pub room : free_in new + 1 ≡ free_in old
 
 -- A stripe left by a pass: the pass has the receipts that it had, and knows all stays of the stripe as ended.
@@ -65,11 +66,12 @@ pub record LeftBy (part : StripePart) (old new : PassToken) : Type 0 where
   pub keeps : KeepsPass 0 no_write old new
   pub knows : KnowsEnded part new.part
 
--- A stripe has kept entries of these events behind those that it had. Their places ascend from a floor on.
+-- A stripe has kept entries of these events behind those that it had, and behind those of the last chunk. Their places ascend from a floor on.
 pub record KeptEntries {D : Type 0} (events : List Event) (floor : ℕ) (old new : Stripe D) : Type 0 where
   pub entries : List Entry
   pub are : map (λ (entry : Entry). entry.event) entries ≡ events
   pub kept : entries_in new.entries ≡ entries_in old.entries ++ entries
+  pub last : last_in new.entries ≡ last_in old.entries ++ entries
   pub ascend : AscendFrom floor entries
   pub room : free_in old.entries ≡ free_in new.entries + length events
 

@@ -6,13 +6,14 @@ ghost use Rattle.era_base.specs.Calls.{Now};
 ghost use Rattle.era_model.specs.declared.opening.Opening.{Opening};
 ghost use Rattle.era_model.specs.declared.history.Happening.TheVariants.{Opened};
 ghost use Rattle.era_notes.specs.Notes.{first_device};
-ghost use Rattle.era_notes.specs.Rooms.{entries_in, free_in, HoldBytes};
+ghost use Rattle.era_notes.specs.Rooms.{entries_in, free_in, last_in, HoldBytes};
 ghost use Rattle.era_notes.specs.declared.room.TheConstants.{ROOM_ENTRIES};
 ghost use Rattle.era_notes.specs.Parts.{part_sectors, HoldsContent};
 
 use crate::cut_write::CutWrite;
 use era_base::{Disk, Geometry};
 use era_gate::StripeSeat;
+use era_model::Entry;
 use era_notes::{Buffers, Chunks, Notes, Room};
 
 /// A range of blocks on a disk of its own. `index` is its number, `era` that of its present stay in the gate, `cut` its
@@ -78,6 +79,7 @@ impl<D: Disk> Stripe<D> {
         ensures fits { StripeFits D.Disk self.new }
         ensures view { view_of D.Disk self.new ≡ view_of D.Disk self.old }
         ensures entries { ROOM_ENTRIES ≤ free_in self.new.entries }
+        ensures last { last_in self.new.entries ≡ [] }
         ensures buffers { HoldBytes room self.new.room }
         ensures same { (self.new.disk ≡ self.old.disk) × (self.new.seat ≡ self.old.seat)
             × (self.new.cut ≡ self.old.cut) × (self.new.era ≡ self.old.era)
@@ -85,6 +87,14 @@ impl<D: Disk> Stripe<D> {
     {
         let buffers = room.admit(&mut self.entries);
         self.room = Some(buffers);
+    }
+
+    /// The entries that were drawn since the last room was admitted, in order: those of the command that was served last. It
+    /// takes no memory.
+    pub fn trail(&self) -> &[Entry]
+        ensures { result.now ≡ last_in self.now.entries }
+    {
+        self.entries.last()
     }
 
     /// Gives the part, the seat and the entries back. It takes no memory.
