@@ -1,12 +1,11 @@
 -- Which meanings a crash may bring back behind a commit, and what its images stand for at each moment.
-use Rattle.std.proofs.Common.{◌≡◌, ◌⊎◌, ℕ, ◌≤◌, Bool, true, false, List, Option, Some, None, refl, sym, ap, ◌∙◌, subst, inl, inr}
-use Rattle.era_base.specs.CrashModel.{State, History, Continues, AllBetween, Leaves, Went, clock}
+use Rattle.std.proofs.Common.{◌≡◌, ◌⊎◌, Bool, List, Option, refl, ◌∙◌, inl, inr}
+use Rattle.era_base.specs.CrashModel.{State, History, Continues, AllBetween, Went, clock}
 use Rattle.era_meta.specs.declared.metadata.Meta.{Meta}
-use Rattle.era_meta.specs.Held.{snapshot_marks}
-use Rattle.era_meta.specs.InMemory.{HasStored, LeavesMeanings, MayComeBack, MetaStands, MetaStores, StillStores, meaning_in}
+use Rattle.era_meta.specs.InMemory.{HasStored, LeavesMeanings, MayComeBack, StillStores, meaning_in}
 use Rattle.era_meta.specs.Keeping.{MayLeave}
-use Rattle.era_meta.specs.Meaning.{Meaning, IsImageOf}
-use Rattle.era_meta.specs.SnapshotCalls.{HasHeld, MetaHolds, StillHolds}
+use Rattle.era_meta.specs.Meaning.{Meaning}
+use Rattle.era_meta.specs.SnapshotCalls.{HasHeld, StillHolds}
 use Rattle.era_meta.specs.HeldCalls.{with_snapshot}
 use Rattle.era_meta.specs.StoredMarks.{with_marks}
 use Rattle.era_model.specs.declared.history.Happening.{Happening}

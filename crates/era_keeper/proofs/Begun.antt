@@ -1,5 +1,5 @@
 -- What a command did behind its beginning is what it did.
-use Rattle.std.proofs.Common.{◌≡◌, ◌⊎◌, ℕ, ◌+◌, ◌<◌, Bool, true, false, List, [], ◌∷◌, refl, sym, ap, ◌∙◌, subst, inl, inr}
+use Rattle.std.proofs.Common.{ℕ, ◌+◌, ◌<◌, true, false, List, [], ◌∷◌, sym, ap, ◌∙◌, subst, inr}
 use Rattle.std.specs.Prelude.{Result, Ok, Err}
 use Rattle.era_base.specs.declared.disk.Disk.{Ghosts}
 use Rattle.era_base.specs.declared.ids.CmdId.{CmdId}
@@ -14,8 +14,6 @@ use Rattle.era_model.specs.declared.event.Event.TheVariants.{Kept, Mark, Refused
 use Rattle.era_model.specs.declared.event.Kind.TheVariants.{Checkpoint as CheckpointKind, Write as WriteKind}
 use Rattle.era_model.specs.declared.event.Why.TheVariants.{MetaFault}
 use Rattle.era_model.specs.Marks.{BlockMarks, rolled, with_block}
-use Rattle.era_notes.specs.Rooms.{free_in}
-use Rattle.era_notes.specs.declared.chunks.Chunks.{Chunks}
 use Rattle.era_keeper.specs.declared.keeper.Keeper.{Keeper}
 use Rattle.era_keeper.specs.Calls.{Drew, MayCall, MayDraw}
 use Rattle.era_keeper.specs.Results.{CheckpointDid, CheckpointWent, MarkDid, MarkWent}

@@ -1,5 +1,5 @@
 -- What the draw behind a commit owes: that of its event where it answered Ok, and that of the refusal where it failed.
-use Rattle.std.proofs.Common.{◌≡◌, ◌⊎◌, ℕ, Bool, true, false, List, [], ◌∷◌, Option, None, refl, sym, ap, ◌∙◌, subst, inl, inr}
+use Rattle.std.proofs.Common.{◌≡◌, ◌⊎◌, ℕ, Bool, true, false, List, [], ◌∷◌, refl, sym, ◌∙◌, subst, inl, inr}
 use Rattle.std.proofs.lemmas.Bool.{false≢true}
 use Rattle.era_base.specs.Calls.{Now}
 use Rattle.era_base.specs.Faults.{Rose}
@@ -14,14 +14,14 @@ use Rattle.era_model.specs.declared.event.Event.TheVariants.{Refused}
 use Rattle.era_model.specs.declared.event.Kind.{Kind}
 use Rattle.era_model.specs.declared.event.Why.TheVariants.{MetaFault}
 use Rattle.era_model.specs.declared.history.Happening.{Happening}
-use Rattle.era_model.specs.declared.history.Happening.TheVariants.{Opened, Happened}
+use Rattle.era_model.specs.declared.history.Happening.TheVariants.{Happened}
 use Rattle.era_model.specs.declared.opening.Opening.{Opening}
 use Rattle.era_model.specs.History.{at_opening, blocks_at, blocks_now}
 use Rattle.era_model.specs.Legal.{MayFailAtMetadata}
 use Rattle.era_model.specs.Marking.{held_of, marks_of}
 use Rattle.era_model.specs.Marks.{BlockMarks, blocks_of_marks}
 use Rattle.era_model.specs.Promises.{MarksFollowJournal}
-use Rattle.era_notes.specs.Notes.{Note, notes_of, own_history, told_count, last_faults, least_of, TellsRisen}
+use Rattle.era_notes.specs.Notes.{Note, own_history, told_count, TellsRisen}
 use Rattle.era_keeper.specs.declared.keeper.Keeper.{Keeper}
 use Rattle.era_keeper.specs.Keepers.{KeeperStands, comes_back, view_of}
 use Rattle.era_keeper.specs.OwnEntries.{KeeperMay, MarksAreKept}
@@ -31,7 +31,7 @@ use Rattle.era_keeper.proofs.Backs.{meant}
 use Rattle.era_keeper.proofs.Follows.{follows-same, kept-same}
 use Rattle.era_keeper.proofs.Quiet.{OwesDraw, comes-quiet}
 use Rattle.era_keeper.proofs.Stores.{comes-now, over, own}
-use Rattle.era_keeper.proofs.Words.{SameWords, quiet-words}
+use Rattle.era_keeper.proofs.Words.{quiet-words}
 
 -- what the opening says, by own entries
 pub at-own : {T : Type 0} (none : T) (of : Opening → T) (opening : Opening) (notes : List Note) → at_opening none of (own_history opening notes) ≡ of opening
@@ -44,7 +44,7 @@ pub blocks-own : (opening : Opening) (notes : List Note) (m : BlockMarks) → m.
 blocks-own opening notes m sectors block_sectors =
     rw (sectors ∙ at-own 0 (λ o. o.geometry.sectors) opening notes, block_sectors ∙ at-own 0 (λ o. o.geometry.block_sectors) opening notes) (sym (at-own 0 blocks_at opening notes))
 
-pub owes-stored : {D : Type 0} (disk : Ghosts D) (opening : Opening) (keeper : Keeper D) (new : Meta D) (event : Event) → KeeperMay disk.tells (own disk opening keeper) event
+pub owes-stored : {D : Type 0} (disk : Ghosts D) (opening : Opening) (keeper : Keeper D) (new : Meta D) (event : Event) → KeeperMay (own disk opening keeper) event
     → TellsRisen (told_count event) (last_count_of disk keeper) (disk.faults new.slots.disk)
     → MarksFollowJournal (Happened event ∷ own disk opening keeper) → MarksAreKept (Happened event ∷ own disk opening keeper)
     → new.marks ≡ marks_of (Happened event ∷ own disk opening keeper) → snapshot_marks new.snapshot ≡ held_of (Happened event ∷ own disk opening keeper) → new.unstored ≡ false

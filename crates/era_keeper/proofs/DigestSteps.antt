@@ -130,7 +130,7 @@ owes-undigested disk opening keeper new id count law standing stored still same 
     let view = view_of disk keeper in
     let next = meant (after_digest keeper.meta.marks) (held_of h) in
     owes-failed disk opening keeper new id DigestKind count next
-    (record { rose = ascends-since disk.tells opening view.notes view.least view.faults count stands.own.legal stands.own.counts rose; cause = tt })
+    (record { rose = ascends-since opening view.notes view.least view.faults count stands.own.legal stands.own.counts rose; cause = tt })
     present rose still.memory.marks (ap snapshot_marks same.snapshot) stored still.memory.unstored
     (λ told meaning back. elim (back-still keeper.meta new (after_digest keeper.meta.marks) (disk.history keeper.meta.slots.disk).now (disk.history new.slots.disk).now meaning (still.failed.still told) back) [
       | inl old ↦ inl old

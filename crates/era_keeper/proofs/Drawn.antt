@@ -1,23 +1,21 @@
 -- What was drawn: one event, and two in order.
-use Rattle.std.proofs.Common.{◌≡◌, ℕ, ◌+◌, ◌≤◌, Bool, true, false, List, [], ◌∷◌, ◌++◌, length, map, arith, refl, sym, ap, ◌∙◌, subst, append_assoc}
-use Rattle.era_base.specs.Calls.{SameDisk}
+use Rattle.std.proofs.Common.{◌≡◌, ℕ, ◌+◌, ◌≤◌, false, List, [], ◌∷◌, ◌++◌, length, map, arith, refl, sym, ap, ◌∙◌, append_assoc}
 use Rattle.era_base.specs.declared.disk.Disk.{Ghosts}
 use Rattle.era_base.specs.declared.ids.CmdId.{CmdId}
-use Rattle.era_gate.specs.Calls.{KeeperAsks, PassToken, pass_draws, receives}
+use Rattle.era_gate.specs.Calls.{KeeperAsks, PassToken, receives}
 use Rattle.era_gate.specs.Acts.{lane_of}
 use Rattle.era_gate.specs.declared.stays.Receipt.TheVariants.{OfEvent}
 use Rattle.era_gate.specs.Passes.{KeepsPass, no_write}
 use Rattle.era_gate.specs.Places.{AscendFrom}
 use Rattle.era_gate.specs.StateAfter.{entry}
 use Rattle.era_gate.specs.declared.parts.KeeperPart.{KeeperPart}
-use Rattle.era_gate.specs.declared.parts.PassPart.{PassPart}
 use Rattle.era_model.specs.declared.entry.Entry.{Entry}
 use Rattle.era_model.specs.declared.event.Event.{Event}
 use Rattle.era_model.specs.declared.event.Event.TheVariants.{Go}
 use Rattle.era_model.specs.Events.{is_go_of}
-use Rattle.era_notes.specs.Rooms.{entries_in, free_in}
+use Rattle.era_notes.specs.Rooms.{entries_in, free_in, last_in}
 use Rattle.era_keeper.specs.declared.keeper.Keeper.{Keeper}
-use Rattle.era_keeper.specs.Calls.{Drew, DrewAt, SameKeeper, SameMemory, SameRest, after_draws}
+use Rattle.era_keeper.specs.Calls.{Drew, DrewAt, SameKeeper, SameRest}
 
 -- ascending places are no fewer than the entries
 pub ascend-length : (place : ℕ) (entries : List Entry) (last : Entry) → AscendFrom place (entries ++ last ∷ []) → place + length (entries ++ last ∷ []) ≤ last.place + 1
@@ -55,7 +53,7 @@ keeps-then drawn more a b c one two = record {
 -- one draw
 pub drew-one : {D : Type 0} (old new : Keeper D) (pass pass' : PassToken) (event : Event) (place : ℕ) → DrewAt event place old new pass pass' → Drew (event ∷ []) old new pass pass'
 drew-one old new pass pass' event place drew = record {
-  kept = record { entries = entry place event ∷ []; are = refl; kept = drew.kept; ascend = (drew.floor, tt); room = sym drew.room };
+  kept = record { entries = entry place event ∷ []; are = refl; kept = drew.kept; last = drew.last; ascend = (drew.floor, tt); room = sym drew.room };
   receipts = drew.lanes;
   keeps = drew.keeps;
 }
@@ -65,12 +63,14 @@ pub drew-two : {D : Type 0} (old one mid new : Keeper D) (pass between pass' : P
     → DrewAt second q mid new between pass' → Drew (first ∷ second ∷ []) old new pass pass'
 drew-two old one mid new pass between pass' first second p q drew same then =
     let kept : entries_in mid.entries ≡ entries_in old.entries ++ entry p first ∷ [] = ap entries_in same ∙ drew.kept in
+    let last : last_in mid.entries ≡ last_in old.entries ++ entry p first ∷ [] = ap last_in same ∙ drew.last in
     let room : free_in mid.entries ≡ free_in one.entries = ap free_in same in
     record {
       kept = record {
         entries = entry p first ∷ entry q second ∷ [];
         are = refl;
         kept = then.kept ∙ ap (λ entries. entries ++ entry q second ∷ []) kept ∙ append_assoc (entries_in old.entries) (entry p first ∷ []) (entry q second ∷ []);
+        last = then.last ∙ ap (λ entries. entries ++ entry q second ∷ []) last ∙ append_assoc (last_in old.entries) (entry p first ∷ []) (entry q second ∷ []);
         ascend = (drew.floor, (omega (arith, drew.next, then.floor), tt));
         room = omega (arith, room, drew.room, then.room);
       };
@@ -81,7 +81,7 @@ drew-two old one mid new pass between pass' first second p q drew same then =
 -- none
 pub drew-none : {D : Type 0} (old new : Keeper D) (pass : PassToken) → new.entries ≡ old.entries → Drew [] old new pass pass
 drew-none old new pass same = record {
-  kept = record { entries = []; are = refl; kept = ap entries_in same ∙ sym (no-more (entries_in old.entries)); ascend = tt; room = ap free_in (sym same) ∙ omega arith };
+  kept = record { entries = []; are = refl; kept = ap entries_in same ∙ sym (no-more (entries_in old.entries)); last = ap last_in same ∙ sym (no-more (last_in old.entries)); ascend = tt; room = ap free_in (sym same) ∙ omega arith };
   receipts = refl;
   keeps = record { table = refl; lanes = λ l. refl; gone = λ id not. refl; budget = omega arith; floor = omega arith; begun = λ d. omega arith; ended = λ d. omega arith };
 }
@@ -97,6 +97,7 @@ drew-from old mid new pass pass' events same drew = record {
     entries = drew.kept.entries;
     are = drew.kept.are;
     kept = drew.kept.kept ∙ ap (λ chunks. entries_in chunks ++ drew.kept.entries) same;
+    last = drew.kept.last ∙ ap (λ chunks. last_in chunks ++ drew.kept.entries) same;
     ascend = drew.kept.ascend;
     room = ap free_in (sym same) ∙ drew.kept.room;
   };
@@ -111,6 +112,7 @@ drew-to old mid new pass pass' events same drew = record {
     entries = drew.kept.entries;
     are = drew.kept.are;
     kept = ap entries_in same ∙ drew.kept.kept;
+    last = ap last_in same ∙ drew.kept.last;
     ascend = drew.kept.ascend;
     room = drew.kept.room ∙ ap (λ chunks. free_in chunks + length events) (sym same);
   };

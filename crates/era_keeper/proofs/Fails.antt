@@ -1,5 +1,5 @@
 -- Faults of the metadata behind the last commit, and eras that stand in memory alone, as events are added.
-use Rattle.std.proofs.Common.{◌≡◌, ◌==◌, ◌||◌, not, ℕ, Bool, true, false, List, [], ◌∷◌, Option, Some, None, refl, sym, ap, ◌∙◌, subst}
+use Rattle.std.proofs.Common.{◌≡◌, ◌||◌, not, ℕ, Bool, true, false, List, [], ◌∷◌, Option, Some, None, refl, sym, ◌∙◌}
 use Rattle.std.specs.Prelude.{if◌then◌else◌}
 use Rattle.std.proofs.lemmas.Bool.{and_from, or_left, or_right, or_parts, not_from_true, not_from_false, false≢true, true_from_ne_false, eq-eqb}
 use Rattle.era_base.specs.declared.ids.CmdId.{CmdId}

@@ -1,5 +1,5 @@
 -- The marks of a history with one more event.
-use Rattle.std.proofs.Common.{◌≡◌, ℕ, ◌+◌, ◌-◌, ◌<◌, ◌≤◌, ◌==◌, ◌&&◌, Bool, true, false, List, [], ◌∷◌, Option, Some, None, length, nat_lt, refl, sym, ap, ◌∙◌, subst, arith, inl, inr}
+use Rattle.std.proofs.Common.{◌≡◌, ℕ, ◌+◌, ◌<◌, ◌≤◌, ◌==◌, ◌&&◌, false, List, [], ◌∷◌, Option, Some, None, length, nat_lt, refl, sym, ap, ◌∙◌, subst, arith, inl, inr}
 use Rattle.std.specs.Prelude.{if◌then◌else◌, max}
 use Rattle.std.proofs.lemmas.Bool.{cond_both, or_cases, and_parts, eqb-true, false≢true, false_from_ne_true}
 use Rattle.era_base.specs.Flags.{has}
@@ -14,7 +14,7 @@ use Rattle.era_model.specs.History.{era_of}
 use Rattle.era_model.specs.Legal.{IsOpening}
 use Rattle.era_model.specs.Marking.{held_of, is_marked_in, journal_last_era, marks_of}
 use Rattle.era_model.specs.MarkLaws.{LastsAreBounded, MarkGivesEra, SwitchKeepsMarks}
-use Rattle.era_model.specs.Marks.{ArchivedSet, BlockMarks, entry_of, last_archived, marks_last_era, rolled, with_block, with_current_archived, with_oldest_merged}
+use Rattle.era_model.specs.Marks.{ArchivedSet, BlockMarks, last_archived, marks_last_era, rolled, with_current_archived, with_oldest_merged}
 use Rattle.era_model.specs.Promises.{KeepsLastEras, MarksFollowJournal}
 use Rattle.era_model.specs.Recovered.{IsDurableFrom, MayHold}
 use Rattle.era_model.specs.Validity.{AreArchivedBetween, AreValidMarks, IsValidSnapshot, entry_limit}

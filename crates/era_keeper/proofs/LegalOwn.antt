@@ -16,7 +16,7 @@ use Rattle.era_keeper.specs.OwnEntries.{AllKeepWithin, AreKeepersLegal, KeeperMa
 use Rattle.era_keeper.proofs.Commits.{at-own}
 
 -- a refusal
-may-refuse : (h : List Happening) (id : CmdId) (kind : Kind) (why : Why) → KeeperMay true h (Refused id kind why) → MayHappen h (Refused id kind why)
+may-refuse : (h : List Happening) (id : CmdId) (kind : Kind) (why : Why) → KeeperMay h (Refused id kind why) → MayHappen h (Refused id kind why)
 may-refuse h id kind (DataFault stripe count) may = absurd may
 may-refuse h id kind (MetaFault count) may = may
 may-refuse h id kind End may = may
@@ -26,7 +26,7 @@ may-refuse h id kind Idle may = may
 may-refuse h id kind Memory may = may
 
 -- an entry, where the session has so many stripes
-may-happen : (h : List Happening) (stripes : ℕ) (event : Event) → at_opening 0 (λ o. o.stripes) h ≡ stripes → KeeperMay true h event → KeepsWithin stripes event → MayHappen h event
+may-happen : (h : List Happening) (stripes : ℕ) (event : Event) → at_opening 0 (λ o. o.stripes) h ≡ stripes → KeeperMay h event → KeepsWithin stripes event → MayHappen h event
 may-happen h stripes (Tried id block era) is may within = may
 may-happen h stripes (Mark id block era) is may within = may
 may-happen h stripes (Go id block era first bytes) is may within = absurd may
@@ -41,7 +41,7 @@ may-happen h stripes (Snap id block) is may within = may
 may-happen h stripes (Dropped id) is may within = may
 may-happen h stripes (Digest id era page) is may within = may
 may-happen h stripes (ListEvent id since snap blocks) is may within = may
-may-happen h stripes (Status id used total era held) is may within = record { usage = may.usage refl; size = may.size; present = may.present; snapshot = may.snapshot }
+may-happen h stripes (Status id used total era held) is may within = may
 may-happen h stripes (Refused id kind why) is may within = may-refuse h id kind why may
 
 -- a session that opened and hasn't crashed is open
@@ -49,7 +49,7 @@ open-own : (opening : Opening) (notes : List Note) → is_open (own_history open
 open-own opening [] = refl
 open-own opening (note ∷ earlier) = open-own opening earlier
 
-pub legal-own : (opening : Opening) (notes : List Note) → IsOpening opening → AreKeepersLegal true opening notes → AllKeepWithin opening.stripes notes → IsLegal (own_history opening notes)
+pub legal-own : (opening : Opening) (notes : List Note) → IsOpening opening → AreKeepersLegal opening notes → AllKeepWithin opening.stripes notes → IsLegal (own_history opening notes)
 legal-own opening [] opens legal within = (opens, tt)
 legal-own opening (note ∷ earlier) opens legal within = (
   open-own opening earlier,
@@ -58,6 +58,6 @@ legal-own opening (note ∷ earlier) opens legal within = (
 )
 
 -- the entries of a keeper that stands
-pub legal-stands : (tells : Bool) (opening : Opening) (view : KeeperView) → EntriesStand tells opening view → tells ≡ true → AllKeepWithin opening.stripes view.notes → IsLegal (own_history opening view.notes)
-legal-stands tells opening view stands told within =
-    legal-own opening view.notes stands.opens (subst (λ (t : Bool). AreKeepersLegal t opening view.notes) told stands.legal) within
+pub legal-stands : (tells : Bool) (opening : Opening) (view : KeeperView) → EntriesStand tells opening view → AllKeepWithin opening.stripes view.notes → IsLegal (own_history opening view.notes)
+legal-stands tells opening view stands within =
+    legal-own opening view.notes stands.opens stands.legal within

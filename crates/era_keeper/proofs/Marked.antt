@@ -1,6 +1,5 @@
 -- A block whose mark is asked for: what its request owes, and what the keeper is once the mark is drawn.
-use Rattle.std.proofs.Common.{◌≡◌, ◌==◌, ◌&&◌, ◌||◌, ℕ, ◌+◌, ◌<◌, ◌≤◌, Bool, true, false, List, [], ◌∷◌, refl, sym, ap, ◌∙◌, subst, arith}
-use Rattle.std.specs.Prelude.{if◌then◌else◌}
+use Rattle.std.proofs.Common.{◌≡◌, ◌==◌, ◌&&◌, ◌||◌, ℕ, ◌+◌, ◌<◌, true, false, sym, ap, ◌∙◌, subst, arith}
 use Rattle.std.proofs.lemmas.Bool.{and_from, cond_both, eq-eqb, or_left, or_right}
 use Rattle.era_base.specs.Flags.{has}
 use Rattle.era_base.specs.declared.disk.Disk.{Ghosts}

@@ -1,6 +1,5 @@
 -- A keeper stands where a block's mark is stored, and where that fails.
-use Rattle.std.proofs.Common.{◌≡◌, ◌≢◌, ◌⊎◌, ◌==◌, ◌&&◌, ◌||◌, ℕ, ◌<◌, Bool, true, false, List, [], ◌∷◌, Option, Some, None, refl, sym, ap, ◌∙◌, subst, inl, inr, arith}
-use Rattle.std.specs.Prelude.{if◌then◌else◌}
+use Rattle.std.proofs.Common.{◌≡◌, ◌==◌, ◌&&◌, ℕ, ◌<◌, true, false, List, ◌∷◌, Some, refl, sym, ap, ◌∙◌, subst, inl, inr, arith}
 use Rattle.std.proofs.lemmas.Bool.{and_from, or_left, eq-eqb, ne_eqb, false≢true}
 use Rattle.era_base.specs.Calls.{Now}
 use Rattle.era_base.specs.Faults.{Rose}
@@ -17,11 +16,9 @@ use Rattle.era_model.specs.declared.event.Why.TheVariants.{MetaFault}
 use Rattle.era_model.specs.declared.history.Happening.{Happening}
 use Rattle.era_model.specs.declared.history.Happening.TheVariants.{Happened}
 use Rattle.era_model.specs.declared.opening.Opening.{Opening}
-use Rattle.era_model.specs.Conditions.{MayMark}
-use Rattle.era_model.specs.History.{blocks_now, era_of}
-use Rattle.era_model.specs.Legal.{MayFailAtMetadata}
+use Rattle.era_model.specs.History.{era_of}
 use Rattle.era_model.specs.MarkLaws.{LastsAreBounded, MarkGivesEra}
-use Rattle.era_model.specs.Marking.{held_of, is_tried_in, journal_last_era, last_drawn, marks_of}
+use Rattle.era_model.specs.Marking.{held_of, is_tried_in, last_drawn, marks_of}
 use Rattle.era_model.specs.Marks.{BlockMarks, blocks_of_marks, marks_last_era, with_block}
 use Rattle.era_model.specs.Promises.{MarksFollowJournal}
 use Rattle.era_model.specs.Recovered.{HaveJournalLasts, is_write}
@@ -149,7 +146,7 @@ owes-unmarked disk opening keeper new id block era count standing asked stored f
     let recovers = recovers-asked disk opening keeper id block era asked stands in
     owes-failed disk opening keeper new id WriteKind count next
     (record {
-      rose = ascends-since disk.tells opening view.notes view.least view.faults count stands.own.legal stands.own.counts rose;
+      rose = ascends-since opening view.notes view.least view.faults count stands.own.legal stands.own.counts rose;
       cause = rw asked.asked (λ none. absurd (false≢true (sym none ∙ or_left _ _ (same-itself id))));
     }) present rose memory.marks (ap snapshot_marks same.snapshot) stored memory.unstored
     (λ told meaning back. elim (back-still keeper.meta new (with_block keeper.meta.marks block) (disk.history keeper.meta.slots.disk).now (disk.history new.slots.disk).now meaning (fails.still told) back) [

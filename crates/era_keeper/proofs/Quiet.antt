@@ -1,20 +1,17 @@
 -- A keeper stands over a draw: what the event owes, and what an event that leaves the marks owes.
-use Rattle.std.proofs.Common.{◌≡◌, ℕ, Bool, true, false, List, [], ◌∷◌, ◌++◌, Option, refl, sym, ap, ◌∙◌, subst, inl, inr}
+use Rattle.std.proofs.Common.{◌≡◌, ℕ, Bool, true, false, List, [], ◌∷◌, ◌++◌, refl, sym, ap, ◌∙◌, subst, inl}
 use Rattle.std.proofs.lemmas.Bool.{false≢true}
-use Rattle.era_base.specs.Calls.{Now}
 use Rattle.era_base.specs.CrashModel.{Leaves}
 use Rattle.era_base.specs.declared.disk.Disk.{Ghosts}
 use Rattle.era_gate.specs.Places.{AscendFrom}
 use Rattle.era_gate.specs.StateAfter.{entry}
 use Rattle.era_meta.specs.declared.metadata.Meta.{Meta}
-use Rattle.era_meta.specs.InMemory.{LeavesMeanings}
 use Rattle.era_meta.specs.Meaning.{Meaning, IsImageOf}
 use Rattle.era_model.specs.declared.event.Event.{Event}
 use Rattle.era_model.specs.declared.event.Event.TheVariants.{Tried, Kept, List as ListEvent, Status, Refused}
 use Rattle.era_model.specs.declared.history.Happening.{Happening}
 use Rattle.era_model.specs.declared.history.Happening.TheVariants.{Happened}
 use Rattle.era_model.specs.declared.opening.Opening.{Opening}
-use Rattle.era_model.specs.History.{era_of}
 use Rattle.era_model.specs.Marking.{held_of, marks_of}
 use Rattle.era_model.specs.Promises.{MarksFollowJournal}
 use Rattle.era_model.specs.Recovered.{MayHaveEra, changes_snapshot, is_committed, is_switch, is_write}
@@ -27,12 +24,12 @@ use Rattle.era_keeper.specs.Recovery.{ComesBack, HasFailedSwitch}
 use Rattle.era_keeper.specs.Steps.{IsQuiet}
 use Rattle.era_keeper.proofs.Fails.{fails-before, switch-still-failed}
 use Rattle.era_keeper.proofs.Follows.{follows-same, kept-same}
-use Rattle.era_keeper.proofs.Views.{OwesEntry, entries-noted}
+use Rattle.era_keeper.proofs.Views.{entries-noted}
 use Rattle.era_keeper.proofs.Words.{SameWords, lasts-none, quiet-words, recovered-again}
 
 -- what a draw owes
 pub record OwesDraw (tells : Bool) (opening : Opening) (Back : Meaning → Type 0) (view : KeeperView) (event : Event) : Type 0 where
-  pub may : KeeperMay tells (own_history opening view.notes) event
+  pub may : KeeperMay (own_history opening view.notes) event
   pub told : TellsRisen (told_count event) (last_faults view.least view.notes) view.faults
   pub follows : MarksFollowJournal (Happened event ∷ own_history opening view.notes)
   pub marked : MarksAreKept (Happened event ∷ own_history opening view.notes)
@@ -102,7 +99,7 @@ unstored-quiet unstored (Status id used total era held) h is on failed = absurd 
 unstored-quiet unstored (Refused id kind why) h is on failed = switch-still-failed id kind why h failed
 unstored-quiet unstored event h is on failed = absurd is
 
-pub owes-quiet : (tells : Bool) (opening : Opening) (Back : Meaning → Type 0) (view : KeeperView) (event : Event) → IsQuiet view.unstored event → KeeperMay tells (own_history opening view.notes) event
+pub owes-quiet : (tells : Bool) (opening : Opening) (Back : Meaning → Type 0) (view : KeeperView) (event : Event) → IsQuiet view.unstored event → KeeperMay (own_history opening view.notes) event
     → TellsRisen (told_count event) (last_faults view.least view.notes) view.faults → (tells ≡ true → Leaves (λ image. (meaning : Meaning) × Back meaning × IsImageOf meaning image) view.history.now)
     → ViewStands tells opening Back view → OwesDraw tells opening Back view event
 owes-quiet tells opening Back view event is may told images stands =

@@ -1,5 +1,5 @@
 -- A keeper stands where the era moves: the switch is drawn, and then stored, or not.
-use Rattle.std.proofs.Common.{◌≡◌, ◌||◌, ℕ, ◌+◌, ◌*◌, ◌^◌, ◌<◌, ◌≤◌, ◌/◌, Bool, true, false, List, [], ◌∷◌, ◌++◌, Option, Some, None, length, refl, sym, ap, ◌∙◌, subst, inl, inr, arith}
+use Rattle.std.proofs.Common.{◌≡◌, ℕ, ◌+◌, ◌≤◌, ◌/◌, Bool, true, false, List, [], ◌∷◌, ◌++◌, refl, sym, ap, ◌∙◌, subst, inl, inr}
 use Rattle.std.proofs.lemmas.Bool.{false≢true, or_left}
 use Rattle.era_base.specs.Calls.{EachMoment, Now}
 use Rattle.era_base.specs.Faults.{Rose}
@@ -11,10 +11,10 @@ use Rattle.era_meta.specs.declared.metadata.Meta.{Meta}
 use Rattle.era_meta.specs.Held.{snapshot_marks}
 use Rattle.era_meta.specs.InMemory.{LeavesMeanings, MetaStores, meaning_in}
 use Rattle.era_meta.specs.Meaning.{Meaning}
-use Rattle.era_meta.specs.MetaCalls.{CommitsMarks, FailsToCommitMarks, IsInMemory, IsStanding, KeepsSnapshot}
+use Rattle.era_meta.specs.MetaCalls.{CommitsMarks, FailsToCommitMarks, IsStanding, KeepsSnapshot}
 use Rattle.era_meta.specs.StoredMarks.{with_marks}
 use Rattle.era_model.specs.declared.event.Event.{Event}
-use Rattle.era_model.specs.declared.event.Event.TheVariants.{Tried, Mark, Go, Done, Cut, Settle, Unsettled, Read, Roll, Kept, Snap, Dropped, Digest, List as ListEvent, Status, Refused}
+use Rattle.era_model.specs.declared.event.Event.TheVariants.{Go, Done, Cut, Settle, Roll, Refused}
 use Rattle.era_model.specs.declared.event.Kind.TheVariants.{Checkpoint as CheckpointKind}
 use Rattle.era_model.specs.declared.event.Why.TheVariants.{MetaFault}
 use Rattle.era_model.specs.declared.history.Happening.{Happening}
@@ -26,31 +26,31 @@ use Rattle.era_model.specs.MarkLaws.{SwitchKeepsMarks}
 use Rattle.era_model.specs.Marks.{BlockMarks, rolled}
 use Rattle.era_model.specs.Promises.{MarksFollowJournal}
 use Rattle.era_model.specs.Recovered.{MayHaveEra, changes_snapshot, is_write}
-use Rattle.era_notes.specs.Notes.{Note, own_history, last_faults}
+use Rattle.era_notes.specs.Notes.{Note, own_history}
 use Rattle.era_keeper.specs.declared.keeper.Keeper.{Keeper}
 use Rattle.era_keeper.specs.Keepers.{EntriesStand, KeeperStands, KeeperView, ViewStands, comes_back, noted, view_of}
 use Rattle.era_keeper.specs.OwnEntries.{AreKeepersLegal, KeeperMay}
 use Rattle.era_keeper.specs.Recovery.{ComesBack}
-use Rattle.era_keeper.proofs.Backs.{Moments, Recovers, back-still, back-stored, meant, now-recovered, went-recovered}
-use Rattle.era_keeper.proofs.Counts.{ascends-since, last_faults-le, rose-since}
+use Rattle.era_keeper.proofs.Backs.{Recovers, back-still, back-stored, meant, now-recovered, went-recovered}
+use Rattle.era_keeper.proofs.Counts.{ascends-since}
 use Rattle.era_keeper.proofs.Fails.{same-itself, switch-before, switch-failed}
 use Rattle.era_keeper.proofs.Follows.{durable-now, follows-same, follows-switch, kept-same}
 use Rattle.era_keeper.proofs.Quiet.{OwesDraw, comes-quiet}
 use Rattle.era_keeper.proofs.Stores.{comes-now, own, stored-beside}
 use Rattle.era_keeper.proofs.Views.{called, entries-called, entries-noted}
-use Rattle.era_keeper.proofs.Words.{KeepsLasts, lasts-none, quiet-words, recovered-again, switch-words}
+use Rattle.era_keeper.proofs.Words.{lasts-none, quiet-words, recovered-again, switch-words}
 
 -- no write is in flight
-none-step : (tells : Bool) (h : List Happening) (event : Event) → KeeperMay tells h event → in_flight h ≡ [] → in_flight (Happened event ∷ h) ≡ []
-none-step tells h (Go id block era first bytes) may none = absurd may
-none-step tells h (Done id) may none = absurd may
-none-step tells h (Cut id n) may none = absurd may
-none-step tells h (Settle by cut bytes) may none = absurd may
-none-step tells h event may none = none
+none-step : (h : List Happening) (event : Event) → KeeperMay h event → in_flight h ≡ [] → in_flight (Happened event ∷ h) ≡ []
+none-step h (Go id block era first bytes) may none = absurd may
+none-step h (Done id) may none = absurd may
+none-step h (Cut id n) may none = absurd may
+none-step h (Settle by cut bytes) may none = absurd may
+none-step h event may none = none
 
-pub none-flying : (tells : Bool) (opening : Opening) (notes : List Note) → AreKeepersLegal tells opening notes → in_flight (own_history opening notes) ≡ []
-none-flying tells opening [] legal = refl
-none-flying tells opening (note ∷ earlier) legal = none-step tells (own_history opening earlier) note.entry.event legal.0 (none-flying tells opening earlier legal.1)
+pub none-flying : (opening : Opening) (notes : List Note) → AreKeepersLegal opening notes → in_flight (own_history opening notes) ≡ []
+none-flying opening [] legal = refl
+none-flying opening (note ∷ earlier) legal = none-step (own_history opening earlier) note.entry.event legal.0 (none-flying opening earlier legal.1)
 
 -- a switch that is drawn and stored, or not
 pub record RollWent {D : Type 0} (disk : Ghosts D) (meta new : Meta D) : Type 0 where
@@ -99,7 +99,7 @@ module _ {D : Type 0} (disk : Ghosts D) (opening : Opening) (keeper : Keeper D) 
   own1 : AscendFrom 0 (view.state.entries ++ entry place (Roll id era) ∷ []) → EntriesStand disk.tells opening view1
   own1 ascend = entries-noted disk.tells opening view (Roll id era) place
       (record {
-        may = record { next = next; quiet = none-flying disk.tells opening view.notes stands.own.legal };
+        may = record { next = next; quiet = none-flying opening view.notes stands.own.legal };
         told = tt;
         follows = follows1;
         marked = kept-same (Roll id era) h (switch-words h id era) stands.own.marked;
@@ -163,7 +163,7 @@ module _ {D : Type 0} (disk : Ghosts D) (opening : Opening) (keeper : Keeper D) 
         let first = own1 ascend in
         record {
           may = record {
-            rose = ascends-since disk.tells opening view1.notes view1.least view1.faults count first.legal first.counts rose;
+            rose = ascends-since opening view1.notes view1.least view1.faults count first.legal first.counts rose;
             cause = λ none. absurd (false≢true (sym none ∙ or_left _ _ (same-itself id)));
           };
           told = (present, rose);

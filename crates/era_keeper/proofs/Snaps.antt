@@ -173,7 +173,7 @@ owes-unsnapped disk opening keeper new id kind count taken standing stored none 
     let view = view_of disk keeper in
     let marks : keeper.meta.marks ≡ marks_of h = stands.marks in
     owes-failed disk opening keeper new id kind count (meant keeper.meta.marks (snapped taken keeper.meta.marks))
-    (record { rose = ascends-since disk.tells opening view.notes view.least view.faults count stands.own.legal stands.own.counts rose; cause = cause })
+    (record { rose = ascends-since opening view.notes view.least view.faults count stands.own.legal stands.own.counts rose; cause = cause })
     present rose keeps.memory.marks (ap snapshot_marks fails.snapshot) stored keeps.memory.unstored
     (λ told meaning back. elim (back-still-held keeper.meta new taken (disk.history keeper.meta.slots.disk).now (disk.history new.slots.disk).now meaning (fails.still told) back) [
       | inl old ↦ inl old

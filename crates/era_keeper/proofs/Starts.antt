@@ -1,5 +1,5 @@
 -- A keeper stands as it begins.
-use Rattle.std.proofs.Common.{◌≡◌, ℕ, ◌<◌, Bool, true, false, [], ◌∷◌, arith, refl, sym, ap, ◌∙◌, subst}
+use Rattle.std.proofs.Common.{◌≡◌, Bool, true, false, [], ◌∷◌, arith, refl, sym, ap, ◌∙◌, subst}
 use Rattle.std.proofs.lemmas.Bool.{false≢true}
 use Rattle.era_base.specs.Calls.{Now}
 use Rattle.era_base.specs.CrashModel.{clock, state_at}
@@ -10,12 +10,12 @@ use Rattle.era_meta.specs.Meaning.{Meaning}
 use Rattle.era_model.specs.declared.history.Happening.TheVariants.{Opened}
 use Rattle.era_model.specs.declared.opening.Opening.{Opening}
 use Rattle.era_model.specs.Legal.{IsOpening}
-use Rattle.era_notes.specs.Notes.{Note, notes_of, first_device}
+use Rattle.era_notes.specs.Notes.{notes_of, first_device}
 use Rattle.era_notes.specs.Rooms.{entries_in}
 use Rattle.era_keeper.specs.declared.keeper.Keeper.{Keeper}
 use Rattle.era_keeper.specs.Keepers.{EntriesStand, IsOpenedOver, KeeperStands, KeeperView, view_of}
 use Rattle.era_keeper.specs.Recovery.{ComesBack, LeavesRecovered}
-use Rattle.era_keeper.proofs.Backs.{Recovers, now-recovered}
+use Rattle.era_keeper.proofs.Backs.{now-recovered}
 use Rattle.era_keeper.proofs.Follows.{follows-opening}
 use Rattle.era_keeper.proofs.Stores.{comes-now}
 

@@ -1,13 +1,11 @@
 -- A keeper stands where the marks in memory are stored, and where that fails.
-use Rattle.std.proofs.Common.{◌≡◌, ℕ, ◌≤◌, ◌/◌, Bool, true, false, List, Option, refl, sym, ap, ◌∙◌, subst, inl, inr}
+use Rattle.std.proofs.Common.{◌≡◌, ℕ, ◌≤◌, ◌/◌, Bool, true, false, List, Option, sym, ap, ◌∙◌, subst, inl, inr}
 use Rattle.std.proofs.lemmas.Bool.{false≢true}
 use Rattle.era_base.specs.Calls.{EachMoment, SameDisk}
-use Rattle.era_base.specs.CrashModel.{State}
 use Rattle.era_base.specs.declared.disk.Disk.{Ghosts}
 use Rattle.era_meta.specs.declared.metadata.Meta.{Meta}
 use Rattle.era_meta.specs.Held.{snapshot_marks}
 use Rattle.era_meta.specs.InMemory.{MetaStores, meaning_in}
-use Rattle.era_meta.specs.Meaning.{Meaning}
 use Rattle.era_meta.specs.MetaCalls.{CommitsMarks, FailsToCommitMarks, IsInMemory, IsStanding, KeepsSnapshot}
 use Rattle.era_meta.specs.StoredMarks.{with_marks}
 use Rattle.era_model.specs.declared.history.Happening.{Happening}
@@ -17,9 +15,9 @@ use Rattle.era_model.specs.Marks.{BlockMarks}
 use Rattle.era_model.specs.Promises.{MarksFollowJournal}
 use Rattle.era_notes.specs.Notes.{notes_of, own_history}
 use Rattle.era_keeper.specs.declared.keeper.Keeper.{Keeper}
-use Rattle.era_keeper.specs.Keepers.{EntriesStand, KeeperStands, KeeperView, view_of}
+use Rattle.era_keeper.specs.Keepers.{EntriesStand, KeeperStands, view_of}
 use Rattle.era_keeper.specs.Recovery.{ComesBack}
-use Rattle.era_keeper.proofs.Backs.{Moments, Recovers, back-still, back-stored, meant, went-recovered}
+use Rattle.era_keeper.proofs.Backs.{Recovers, back-still, back-stored, meant, went-recovered}
 use Rattle.era_keeper.proofs.Follows.{durable-now}
 use Rattle.era_keeper.proofs.Views.{entries-called}
 

@@ -1,22 +1,20 @@
 -- A keeper's entries stand: over device calls, and over a draw.
-use Rattle.std.proofs.Common.{◌≡◌, ℕ, ◌≤◌, Bool, true, false, List, [], ◌∷◌, ◌++◌, Option, arith, refl, sym, ap, ◌∙◌, subst}
-use Rattle.era_base.specs.CrashModel.{History, clock, state_at}
-use Rattle.era_base.proofs.CrashImages.{state-now}
+use Rattle.std.proofs.Common.{◌≡◌, ℕ, ◌≤◌, Bool, true, [], ◌∷◌, ◌++◌, Option, arith, refl, sym, ap, ◌∙◌, subst}
+use Rattle.era_base.specs.CrashModel.{History, clock}
 use Rattle.era_gate.specs.Places.{AscendFrom}
-use Rattle.era_gate.specs.StateAfter.{entry, keeper_with}
+use Rattle.era_gate.specs.StateAfter.{entry}
 use Rattle.era_gate.specs.declared.states.KeeperState.{KeeperState}
 use Rattle.era_model.specs.declared.event.Event.{Event}
-use Rattle.era_model.specs.declared.history.Happening.TheVariants.{Opened, Happened}
+use Rattle.era_model.specs.declared.history.Happening.TheVariants.{Happened}
 use Rattle.era_model.specs.declared.opening.Opening.{Opening}
-use Rattle.era_model.specs.Marking.{held_of, marks_of}
 use Rattle.era_model.specs.Marks.{BlockMarks}
 use Rattle.era_model.specs.Promises.{MarksFollowJournal}
 use Rattle.era_meta.specs.Meaning.{Meaning}
-use Rattle.era_notes.specs.Notes.{Note, own_history, told_count, last_faults, TellsRisen}
+use Rattle.era_notes.specs.Notes.{own_history, told_count, last_faults, TellsRisen}
 use Rattle.era_notes.proofs.Windows.{through-note, through-calls}
 use Rattle.era_keeper.specs.Keepers.{EntriesStand, KeeperView, ViewStands, noted}
 use Rattle.era_keeper.specs.OwnEntries.{KeeperMay, MarksAreKept}
-use Rattle.era_keeper.specs.Recovery.{ComesBack, HasFailedSwitch, LeavesRecovered}
+use Rattle.era_keeper.specs.Recovery.{LeavesRecovered}
 use Rattle.era_keeper.proofs.Backs.{Moments}
 use Rattle.era_keeper.proofs.Counts.{counts-later}
 
@@ -27,7 +25,7 @@ called view history faults marks held unstored total =
 
 -- what a draw owes to the entries
 pub record OwesEntry (tells : Bool) (opening : Opening) (view : KeeperView) (event : Event) : Type 0 where
-  pub may : KeeperMay tells (own_history opening view.notes) event
+  pub may : KeeperMay (own_history opening view.notes) event
   pub told : TellsRisen (told_count event) (last_faults view.least view.notes) view.faults
   pub follows : MarksFollowJournal (Happened event ∷ own_history opening view.notes)
   pub marked : MarksAreKept (Happened event ∷ own_history opening view.notes)

@@ -1,11 +1,11 @@
 -- What an event leaves of what a history says of marks, and what may be recovered behind it.
-use Rattle.std.proofs.Common.{◌≡◌, ◌<◌, ℕ, Bool, true, false, List, [], ◌∷◌, Option, Some, None, refl, sym, ap, ◌∙◌, subst, inl, inr}
+use Rattle.std.proofs.Common.{◌≡◌, ◌<◌, ℕ, Bool, true, List, ◌∷◌, Option, Some, None, refl, sym, ◌∙◌, subst, inl, inr}
 use Rattle.std.proofs.lemmas.Bool.{or_right}
 use Rattle.era_model.specs.declared.event.Event.{Event}
 use Rattle.era_model.specs.declared.event.Event.TheVariants.{Tried, Kept, List as ListEvent, Roll, Status, Refused}
 use Rattle.era_model.specs.declared.history.Happening.{Happening}
 use Rattle.era_model.specs.declared.history.Happening.TheVariants.{Happened}
-use Rattle.era_model.specs.History.{blocks_now, era_of}
+use Rattle.era_model.specs.History.{era_of}
 use Rattle.era_model.specs.Marking.{journal_last_era, marks_of, held_of, is_marked_in, is_tried_in}
 use Rattle.era_model.specs.Marks.{BlockMarks, marks_last_era}
 use Rattle.era_model.specs.Recovered.{HaveJournalLasts, IsRecoveredFrom, IsSnapshotTaken, MayHaveEra, MayHold, WereMarks}

@@ -17,11 +17,12 @@ use Rattle.era_model.specs.declared.reply.Answer.{Answer}
 use Rattle.era_model.specs.declared.reply.Answer.TheVariants.{Blocks, Fault, Memory, NoSnap, Status}
 use Rattle.era_model.specs.Conditions.{ListsExactly, ListsSnapshot}
 use Rattle.era_model.specs.Marks.{blocks_of_marks, written_since}
-use Rattle.era_model.specs.Usage.{held_block}
+use Rattle.era_model.specs.Usage.{IsUsage, held_block}
 
--- A status is that of the metadata.
+-- A status is that of the metadata. Where the disk tells its content, so many blocks are used as the roots reach.
 pub record IsStatus {D : Type 0} (disk : Ghosts D) (meta : Meta D) (used total era : ℕ) (held : Option ℕ) : Type 0 where
-  pub usage : Now disk (λ now. TellsUsage meta used) meta.slots.disk
+  pub usage : IsUsage meta.marks (snapshot_marks meta.snapshot) used
+  pub counted : Now disk (λ now. TellsUsage meta used) meta.slots.disk
   pub size : total ≡ disk.sectors meta.slots.disk / 8
   pub present : era ≡ meta.marks.era
   pub block : held ≡ held_block (snapshot_marks meta.snapshot)

@@ -13,7 +13,7 @@ use Rattle.era_keeper.specs.Keepers.{FitsAfter}
 use Rattle.era_model.specs.declared.entry.Entry.{Entry}
 use Rattle.era_model.specs.declared.event.Event.{Event}
 use Rattle.era_notes.specs.Notes.{first_device}
-use Rattle.era_notes.specs.Rooms.{entries_in, free_in}
+use Rattle.era_notes.specs.Rooms.{entries_in, free_in, last_in}
 
 -- A command may draw so many events at a keeper that fits together, behind so many commits: gate, seat and pass are of one table, the pass has the command's lane and that many draws, and the keeper has room for the entries.
 pub record MayDraw {D : Type 0} (disk : Ghosts D) (commits : ℕ) (gate : GateToken) (keeper : Keeper D) (pass : PassToken) (id : CmdId) (draws : ℕ) : Type 0 where
@@ -41,11 +41,12 @@ abbrev pub after_draws : PassPart → List Entry → PassPart
 after_draws pass [] = pass
 after_draws pass (entry ∷ entries) = after_draws (pass_draws pass entry.event entry.place) entries
 
--- A keeper has kept entries of these events behind those that it had. Their places ascend from a floor on.
+-- A keeper has kept entries of these events behind those that it had, and behind those of the last chunk. Their places ascend from a floor on.
 pub record KeptEntries {D : Type 0} (events : List Event) (floor : ℕ) (old new : Keeper D) : Type 0 where
   pub entries : List Entry
   pub are : map (λ (entry : Entry). entry.event) entries ≡ events
   pub kept : entries_in new.entries ≡ entries_in old.entries ++ entries
+  pub last : last_in new.entries ≡ last_in old.entries ++ entries
   pub ascend : AscendFrom floor entries
   pub room : free_in old.entries ≡ free_in new.entries + length events
 
@@ -55,13 +56,14 @@ pub record Drew {D : Type 0} (events : List Event) (old new : Keeper D) (pass pa
   pub receipts : pass'.part.lanes ≡ (after_draws pass.part kept.entries).lanes
   pub keeps : KeepsPass (length events) no_write pass pass'
 
--- A keeper drew an event at a place: the seat and the pass know of it, and the entry is kept.
+-- A keeper drew an event at a place: the seat and the pass know of it, and the entry is kept, as the latest of the last chunk.
 pub record DrewAt {D : Type 0} (event : Event) (place : ℕ) (old new : Keeper D) (pass pass' : PassToken) : Type 0 where
   pub seat : new.seat ≡ record { table = old.seat.table; part = keeper_draws old.seat.part event place }
   pub lanes : pass'.part.lanes ≡ (pass_draws pass.part event place).lanes
   pub floor : pass.part.floor ≤ place
   pub next : place + 1 ≤ pass'.part.floor
   pub kept : entries_in new.entries ≡ entries_in old.entries ++ entry place event ∷ []
+  pub last : last_in new.entries ≡ last_in old.entries ++ entry place event ∷ []
   pub room : free_in new.entries + 1 ≡ free_in old.entries
   pub keeps : KeepsPass 1 no_write pass pass'
   pub marks : HasMarks event old.seat.part.state.entries new.seat.part.state.entries

@@ -1,6 +1,6 @@
 -- What stands of a keeper: what fits together whatever the disk tells, and what its entries say of the metadata.
 use Rattle.std.specs.Prelude.{◌≡◌, ℕ, ◌+◌, ◌*◌, ◌/◌, ◌^◌, ◌<◌, ◌≤◌, Bool, true, false, List, [], ◌∷◌, ◌++◌, length, Option}
-use Rattle.era_base.specs.CrashModel.{History, State, clock}
+use Rattle.era_base.specs.CrashModel.{History, clock}
 use Rattle.era_base.specs.declared.disk.Disk.{Ghosts}
 use Rattle.era_gate.specs.Acts.{entry, keeper_with}
 use Rattle.era_gate.specs.Calls.{has_mark}
@@ -96,7 +96,7 @@ LeavesItsMarks opening view =
 pub record EntriesStand (tells : Bool) (opening : Opening) (view : KeeperView) : Type 0 where
   pub opens : IsOpening opening
   pub total : view.total ≡ opening.total
-  pub legal : AreKeepersLegal tells opening view.notes
+  pub legal : AreKeepersLegal opening view.notes
   pub follows : MarksFollowJournal (own_history opening view.notes)
   pub marked : MarksAreKept (own_history opening view.notes)
   pub through : tells ≡ true → LeavesItsMarks opening view

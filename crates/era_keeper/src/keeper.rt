@@ -1,16 +1,17 @@
 //! A keeper, with its beginning and its end.
 
-ghost use Rattle.std.specs.Prelude.{◌≡◌, ◌≤◌};
+ghost use Rattle.std.specs.Prelude.{◌≡◌, ◌≤◌, []};
 ghost use Rattle.era_base.specs.Calls.{Now};
 ghost use Rattle.era_model.specs.declared.opening.Opening.{Opening};
 ghost use Rattle.era_notes.specs.Notes.{own_history};
-ghost use Rattle.era_notes.specs.Rooms.{free_in};
+ghost use Rattle.era_notes.specs.Rooms.{free_in, last_in};
 ghost use Rattle.era_notes.specs.declared.room.TheConstants.{ROOM_ENTRIES};
 ghost use Rattle.era_keeper.specs.Recovery.{LeavesDurable};
 
 use era_base::Disk;
 use era_gate::KeeperSeat;
 use era_meta::Meta;
+use era_model::Entry;
 use era_notes::{Chunks, Notes, Room};
 
 /// The metadata of an origin, and the keeper's seat of the gate.
@@ -51,10 +52,19 @@ impl<D: Disk> Keeper<D> {
         ensures fits { KeeperFits D.Disk self.new }
         ensures view { view_of D.Disk self.new ≡ view_of D.Disk self.old }
         ensures entries { ROOM_ENTRIES ≤ free_in self.new.entries }
+        ensures last { last_in self.new.entries ≡ [] }
         ensures same { (self.new.meta ≡ self.old.meta) × (self.new.seat ≡ self.old.seat)
             × (self.new.notes ≡ self.old.notes) }
     {
         room.admit(&mut self.entries);
+    }
+
+    /// The entries that were drawn since the last room was admitted, in order: those of the command that was served last. It
+    /// takes no memory.
+    pub fn trail(&self) -> &[Entry]
+        ensures { result.now ≡ last_in self.now.entries }
+    {
+        self.entries.last()
     }
 
     /// Each crash image now stands for marks and a snapshot that are durable by the keeper's entries. It does nothing.

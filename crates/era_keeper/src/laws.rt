@@ -8,13 +8,12 @@ ghost use Rattle.era_keeper.specs.Keepers.{EntriesStand, KeeperView};
 ghost use Rattle.era_keeper.specs.OwnEntries.{AllKeepWithin, AreKeepersLegal};
 
 /// The entries of a keeper are a legal history by themselves, where each that tells that the era was kept tells of at most
-/// as many stripes as the session has, and the disk tells its content. How many stripes were inside is known to the gate
-/// alone, and the usage of a disk that doesn't tell its content to nobody.
+/// as many stripes as the session has. How many stripes were inside is known to the gate alone.
 pub fn keepers_entries_are_legal()
     ensures entries { (opening : Opening) (notes : List Note) → IsOpening opening
-        → AreKeepersLegal true opening notes → AllKeepWithin opening.stripes notes
+        → AreKeepersLegal opening notes → AllKeepWithin opening.stripes notes
         → IsLegal (own_history opening notes) }
     ensures stands { (tells : Bool) (opening : Opening) (view : KeeperView)
-        → EntriesStand tells opening view → tells ≡ true
+        → EntriesStand tells opening view
         → AllKeepWithin opening.stripes view.notes → IsLegal (own_history opening view.notes) }
 {}

@@ -11,5 +11,6 @@ mod snapshots;
 mod storing;
 mod switches;
 mod tells;
+mod usage;
 
 pub use keeper::Keeper;

@@ -47,7 +47,7 @@ impl<D: Disk> Keeper<D> {
         requires asks { KeeperAsks event self.old.seat.part × (lane_of event ≡ id.lane) }
         ensures fits { KeeperFits D.Disk self.new }
         ensures stands { (opening : Opening)
-            → KeeperMay D.tells (own_history opening (view_of D.Disk self.old).notes) event
+            → KeeperMay (own_history opening (view_of D.Disk self.old).notes) event
             → TellsNewCount D.Disk self.old event
             → KeeperStands D.Disk opening self.old → KeeperStands D.Disk opening self.new }
         ensures drew { (place : ℕ)

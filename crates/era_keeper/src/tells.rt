@@ -5,6 +5,7 @@ ghost use Rattle.era_model.specs.declared.event.Event.TheVariants.{Status};
 ghost use Rattle.era_model.specs.declared.opening.Opening.{Opening};
 
 use crate::keeper::Keeper;
+use crate::usage::usage_within;
 use era_base::{CmdId, Disk};
 use era_gate::{Gate, Pass};
 use era_model::{Answer, Device, Event, Kind};
@@ -32,7 +33,8 @@ impl<D: Disk> Keeper<D> {
             self.old self.new pass.old pass.new }
         ensures same { SameRest self.old self.new }
     {
-        let (used, total, era, held) = self.meta.status();
+        let (counted, total, era, held) = self.meta.status();
+        let used = usage_within(&self.meta, counted);
         let event = Event::Status {
             id,
             used,

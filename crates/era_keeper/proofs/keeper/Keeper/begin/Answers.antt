@@ -1,4 +1,4 @@
-use Rattle.std.proofs.Common.{◌≤◌, ℕ, refl, sym, ap, subst}
+use Rattle.std.proofs.Common.{sym, subst}
 use Rattle.era_base.specs.Faults.{Rose}
 use Rattle.era_notes.specs.Notes.{last_faults, least_of, notes_of}
 use Rattle.era_meta.specs.declared.metadata.Meta.{Meta}

@@ -1,4 +1,4 @@
-use Rattle.std.proofs.Common.{rules, ◌≡◌, ◌<◌, ℕ, [], ◌∷◌, inl, refl, sym, ap, ◌∙◌, subst}
+use Rattle.std.proofs.Common.{rules, ◌<◌, sym, ◌∙◌}
 use Rattle.era_keeper.proofs.Begun.{checkpoint-did}
 use Rattle.era_keeper.proofs.Drawn.{drew-one}
 use Rattle.era_keeper.proofs.keeper.Keeper.checkpoint.Goals as goal

@@ -15,6 +15,7 @@ returns-clause-drew g c =
       floor = c.draw_keeper-place.ensures.place.floor;
       next = omega (arith, floor);
       kept = c.push.ensures.entries;
+      last = c.push.ensures.last;
       room = c.push.ensures.room;
       keeps = keeps-none c.args.event c.args.self.now.seat.part c.args.pass.now c.draw_keeper-place.new.pass c.requires.may.may c.draw_keeper-place.ensures.keeps;
       marks = c.draw_keeper-place.ensures.marks;

@@ -9,7 +9,7 @@ returns-clause-stands g c = λ opening new stands.
     let view = view_of g.D.Disk c.args.self.now in
     c.tell.ensures.stands opening
     (may-fail-unstored (own_history opening view.notes) c.args.id c.args.kind c.args.count (stands.unstored c.requires.unstored).volatile
-    (ascends-since g.D.Disk.tells opening view.notes view.least view.faults c.args.count stands.own.legal stands.own.counts new.rose))
+    (ascends-since opening view.notes view.least view.faults c.args.count stands.own.legal stands.own.counts new.rose))
     (new.present, new.rose) stands
 
 pub returns-clause-drew : goal.returns-clause-drew

@@ -1,4 +1,4 @@
-use Rattle.std.proofs.Common.{◌≡◌, true, ap, sym, ◌∙◌, subst}
+use Rattle.std.proofs.Common.{◌≡◌, true, ap, sym, subst}
 use Rattle.era_gate.specs.Calls.{KeeperToken, has_mark}
 use Rattle.era_keeper.proofs.keeper.Keeper.set_bit.Goals as goal
 

@@ -1,4 +1,4 @@
-use Rattle.std.proofs.Common.{arith, refl, sym}
+use Rattle.std.proofs.Common.{arith, refl}
 use Rattle.era_notes.specs.declared.chunks.Chunks.{Start}
 use Rattle.era_keeper.proofs.Starts.{stands-start}
 use Rattle.era_keeper.proofs.keeper.Keeper.start.Goals as goal

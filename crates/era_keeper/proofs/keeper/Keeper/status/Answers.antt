@@ -1,4 +1,4 @@
-use Rattle.std.proofs.Common.{◌≡◌, ℕ, ◌/◌, [], ◌∷◌, refl, sym, ap, ◌∙◌, subst}
+use Rattle.std.proofs.Common.{[], ◌∷◌, sym, subst}
 use Rattle.era_meta.specs.declared.metadata.Meta.{Meta}
 use Rattle.era_model.specs.declared.event.Event.TheVariants.{Status}
 use Rattle.era_keeper.specs.Answers.{IsStatus}

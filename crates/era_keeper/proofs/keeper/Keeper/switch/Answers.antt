@@ -1,4 +1,4 @@
-use Rattle.std.proofs.Common.{◌+◌, ◌/◌, ◌≤◌, ℕ, true, [], ◌∷◌, arith, refl, sym, ap, ◌∙◌, subst}
+use Rattle.std.proofs.Common.{◌+◌, ◌/◌, ℕ, true, arith, refl, sym, ap, ◌∙◌, subst}
 use Rattle.era_base.specs.Faults.{Rose}
 use Rattle.era_gate.specs.Places.{AscendFrom}
 use Rattle.era_meta.specs.Digested.{HasMarks}

@@ -1,4 +1,3 @@
-use Rattle.std.proofs.Common.{refl}
 use Rattle.era_keeper.specs.Keepers.{comes_back, view_of}
 use Rattle.era_keeper.proofs.Quiet.{owes-quiet, stands-drawn}
 use Rattle.era_keeper.proofs.keeper.Keeper.tell.Goals as goal
