@@ -13,7 +13,7 @@ use Rattle.era_base.specs.Bytes.{part}
 use Rattle.era_meta.specs.Content.{blocks_of_root}
 use Rattle.era_meta.specs.Formatting.{LeavesBlankOr}
 use Rattle.era_meta.specs.Meaning.{Meaning, pages_in, reached, IsRootBody, IsImageOf}
-use Rattle.era_meta.specs.Restoring.{IsClosedFirst, IsSecondOlder, LeavesRestoring, LeavesWiping}
+use Rattle.era_meta.specs.Restoring.{IsClosedFirst, IsImageWhileWiping, IsSecondOlder, LeavesRestoring, LeavesWiping}
 use Rattle.era_meta.proofs.Agree.{Agree, all_weaker, meaning-agree, whole-agree}
 use Rattle.era_meta.proofs.FormatsKept.{same-images}
 use Rattle.era_meta.proofs.Kept.{LiesIn, reached-lies}
@@ -130,6 +130,29 @@ wiped-image old seen image first is closed same (inr shut) = elim (slot-either f
   ]
 ]
 
+-- where no gate is open none opens
+still-closed : (slot : ℕ) (seen image : List ℕ) → IsSameGate slot seen image → SlotIsClosed slot seen → SlotIsClosed slot image
+still-closed slot seen image same closed opened = closed (same.0 opened)
+
+closed-both-of : (first : ℕ) (seen : List ℕ) → first < 2 → IsBlank seen → SlotIsClosed first seen × SlotIsClosed (other first) seen
+closed-both-of first seen two blank = elim (cases_eq first 0) [
+  | inl zero_is ↦ (subst (λ (k : ℕ). SlotIsClosed k seen) (sym zero_is) blank.0, subst (λ (k : ℕ). SlotIsClosed (other k) seen) (sym zero_is) blank.1)
+  | inr some ↦
+      let one_is = slot-one first two some in
+      (subst (λ (k : ℕ). SlotIsClosed k seen) (sym one_is) blank.1, subst (λ (k : ℕ). SlotIsClosed (other k) seen) (sym one_is) blank.0)
+]
+
+pub blank-image : (seen image : List ℕ) (first : ℕ) → first < 2 → HasGates first seen image → IsBlank seen → IsBlank image
+blank-image seen image first two (inl both) blank =
+    let closed = closed-both-of first seen two blank in
+    closed-both first image two (still-closed first seen image both.0 closed.0) (still-closed (other first) seen image both.1 closed.1)
+blank-image seen image first two (inr shut) blank =
+    let closed = closed-both-of first seen two blank in
+    closed-both first image two shut.0 (elim shut.1 [
+      | inl gate ↦ still-closed (other first) seen image gate closed.1
+      | inr all ↦ all
+    ])
+
 -- nothing has changed, so the bytes are the same
 pub seen-same : (before now : State) → SameBut 0 0 before now → now.seen ≡ before.seen
 seen-same before now same = same_number_lists now.seen before.seen same.bytes (λ offset lt. same.seen offset (λ low. omega arith))
@@ -142,13 +165,15 @@ abbrev pub WipedPages : Type 0
 WipedPages = (first block : ℕ) (before now : State) → IsClean before → Wipes first before now → 2 ≤ block → Leaves (λ image. page_of block image ≡ page_of block before.seen) now
 
 pub wiped-leaves : WipedBodies → WipedPages → (first : ℕ) (before now : State) (image : List ℕ) → IsClean before → Wipes first before now → IsClosedFirst before.seen first → IsCrashImage now image
-    → (old : Meaning) → IsImageOf old before.seen → IsImageOf old image ⊎ IsBlank image
-wiped-leaves bodies pages first before now image clean wipes closed is old stands =
-    wiped-image old before.seen image first stands closed (record {
-      size = is.size ∙ wipes.same.bytes;
-      bodies = λ slot two. bodies first slot before now clean wipes two image is;
-      pages = λ block behind. pages first block before now clean wipes behind image is;
-    }) (wipes.unpending clean image is)
+    → IsImageWhileWiping before.seen image
+wiped-leaves bodies pages first before now image clean wipes closed is = record {
+  marks = λ old stands. wiped-image old before.seen image first stands closed (record {
+    size = is.size ∙ wipes.same.bytes;
+    bodies = λ slot two. bodies first slot before now clean wipes two image is;
+    pages = λ block behind. pages first block before now clean wipes behind image is;
+  }) (wipes.unpending clean image is);
+  blank = blank-image before.seen image first closed.two (wipes.unpending clean image is);
+}
 
 pub quiet-wiping : (old new : History) → Went (SameBut 0 0) old new → Went LeavesWiping old new
 quiet-wiping old new went = went-wider (SameBut 0 0) LeavesWiping old new (λ state same image is. inl (same-images old.now state same image is)) went
@@ -158,17 +183,20 @@ pub wiping-leaves : WipedBodies → WipedPages → (first : ℕ) (old mid new : 
 wiping-leaves bodies pages first old mid new one clean closed two =
     went-join (SameBut 0 0) (Wipes first) LeavesWiping old mid new one two
     (λ state same image is. inl (same-images old.now state same image is))
-    (λ state same wipes image is. inr (λ meaning stands.
-    wiped-leaves bodies pages first mid.now state image clean wipes closed is meaning (subst (IsImageOf meaning) (sym (seen-same old.now mid.now same)) stands)))
+    (λ state same wipes image is. inr (subst (λ (seen : List ℕ). IsImageWhileWiping seen image) (seen-same old.now mid.now same)
+    (wiped-leaves bodies pages first mid.now state image clean wipes closed is)))
 
 -- and behind a wiping each image is blank or of the new meaning
 wider : (meaning : Meaning) (before now : State) → LeavesWiping before now → LeavesRestoring meaning before now
 wider meaning before now leaves image is = elim (leaves image is) [
   | inl was ↦ inl was
-  | inr stands ↦ inr (λ old holds. elim (stands old holds) [
-    | inl old_one ↦ inl old_one
-    | inr blank ↦ inr (inl blank)
-  ])
+  | inr may ↦ inr (record {
+    marks = λ old holds. elim (may.marks old holds) [
+      | inl old_one ↦ inl old_one
+      | inr blank ↦ inr (inl blank)
+    ];
+    blank = λ was. inl (may.blank was);
+  })
 ]
 
 pub quiet-restoring : (meaning : Meaning) (old new : History) → Went LeavesWiping old new → Went (LeavesRestoring meaning) old new
@@ -179,7 +207,7 @@ pub restoring-leaves : (meaning : Meaning) (old mid new : History) → Went Leav
 restoring-leaves meaning old mid new one two =
     went-join LeavesWiping (λ before. LeavesBlankOr meaning) (LeavesRestoring meaning) old mid new one two
     (λ state leaves. wider meaning old.now state leaves)
-    (λ state leaves new_ones image is. inr (λ before stands. inr (new_ones image is)))
+    (λ state leaves new_ones image is. inr (record { marks = λ before stands. inr (new_ones image is); blank = λ was. new_ones image is }))
 
 -- the bytes of both slots, once they were read
 pub fronts-closed : (zero one : List ℕ) (first : ℕ) (now : State) → length zero ≡ 4096 → length one ≡ 4096 → HasFronts zero one now

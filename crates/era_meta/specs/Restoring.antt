@@ -40,15 +40,23 @@ abbrev pub wiped_disk : {D : Type 0} → Result (Slots D) (MetaRefusal D) → D
 wiped_disk (Ok slots) = slots.disk
 wiped_disk (Err refusal) = refusal.disk
 
--- A moment of a wiping: each crash image was possible before, or, of a disk that stood for a meaning, stands for that or is blank.
-abbrev pub LeavesWiping : State → State → Type 0
-LeavesWiping before now =
-    Leaves (λ image. IsCrashImage before image ⊎ ((old : Meaning) → IsImageOf old before.seen → IsImageOf old image ⊎ IsBlank image)) now
+-- An image that a wiping may leave of a disk that read so: where that stood for a meaning, it stands for the same or is blank, and of a blank disk it is blank.
+pub record IsImageWhileWiping (seen image : List ℕ) : Type 0 where
+  pub marks : (old : Meaning) → IsImageOf old seen → IsImageOf old image ⊎ IsBlank image
+  pub blank : IsBlank seen → IsBlank image
 
--- A moment of a restoring: each crash image was possible before, or, of a disk that stood for a meaning, stands for that or for the new one or is blank.
+-- An image that a restoring to a meaning may leave of a disk that read so: where that stood for one, it stands for the same or for the new one or is blank, and of a blank disk it is blank or stands for the new one.
+pub record IsImageWhileRestoring (meaning : Meaning) (seen image : List ℕ) : Type 0 where
+  pub marks : (old : Meaning) → IsImageOf old seen → IsImageOf old image ⊎ (IsBlank image ⊎ IsImageOf meaning image)
+  pub blank : IsBlank seen → IsBlank image ⊎ IsImageOf meaning image
+
+-- A moment of a wiping: each crash image was possible before, or is one that the wiping may leave.
+abbrev pub LeavesWiping : State → State → Type 0
+LeavesWiping before now = Leaves (λ image. IsCrashImage before image ⊎ IsImageWhileWiping before.seen image) now
+
+-- A moment of a restoring: each crash image was possible before, or is one that the restoring may leave.
 abbrev pub LeavesRestoring : Meaning → State → State → Type 0
-LeavesRestoring meaning before now =
-    Leaves (λ image. IsCrashImage before image ⊎ ((old : Meaning) → IsImageOf old before.seen → IsImageOf old image ⊎ (IsBlank image ⊎ IsImageOf meaning image))) now
+LeavesRestoring meaning before now = Leaves (λ image. IsCrashImage before image ⊎ IsImageWhileRestoring meaning before.seen image) now
 
 -- What a disk held was replaced by marks: the disk was wiped by six device calls and two for each gate that was open, and formatted with the marks.
 pub record RestoresDisk {D : Type 0} (disk : Ghosts D) (m : BlockMarks) (old : D) (meta : Meta D) : Type 0 where
