@@ -12,13 +12,13 @@ use Rattle.era_keeper.specs.declared.keeper.Keeper.{Keeper}
 use Rattle.era_model.specs.declared.command.Request.TheVariants.{TakeSnap, DropSnap, Digest as DigestRequest, Status as StatusRequest, List as ListRequest}
 use Rattle.era_model.specs.declared.reply.Answer.{Answer}
 use Rattle.era_model.specs.declared.reply.Answer.TheVariants.{Blocks, Digest as DigestAnswer, End, EraIs, Fault, Fine, Found, Held, Idle, Kept, Memory, NoSnap, Range, Snap as SnapAnswer, Status as StatusAnswer}
-use Rattle.era_session.specs.Receipts.{PassDrew}
+use Rattle.era_session.specs.Chunks.{ChunkDrew}
 use Rattle.era_session.specs.Requests.{request_events}
 use Rattle.era_session.proofs.Receipts.{keeper-drew}
 
 -- a taking of a snapshot
 pub snap-drew : {D : Type 0} (disk : Ghosts D) (id : CmdId) (answer : Answer) (old new : Keeper D) (pass pass' : PassToken) → SnapDid disk id answer old new pass pass'
-    → PassDrew (request_events id TakeSnap answer) no_write pass pass'
+    → ChunkDrew (request_events id TakeSnap answer) no_write pass pass' old.entries new.entries
 snap-drew disk id Fine old new pass pass' did = absurd did
 snap-drew disk id Range old new pass pass' did = absurd did
 snap-drew disk id (Fault device count) old new pass pass' (none, inl refused) = keeper-drew _ old new pass pass' refused.drew
@@ -38,7 +38,7 @@ snap-drew disk id Memory old new pass pass' did = absurd did
 
 -- a dropping of the snapshot
 pub unsnap-drew : {D : Type 0} (disk : Ghosts D) (id : CmdId) (answer : Answer) (old new : Keeper D) (pass pass' : PassToken) → UnsnapDid disk id answer old new pass pass'
-    → PassDrew (request_events id DropSnap answer) no_write pass pass'
+    → ChunkDrew (request_events id DropSnap answer) no_write pass pass' old.entries new.entries
 unsnap-drew disk id Fine old new pass pass' did = keeper-drew _ old new pass pass' did.drew
 unsnap-drew disk id Range old new pass pass' did = absurd did
 unsnap-drew disk id (Fault device count) old new pass pass' (held, inl refused) = keeper-drew _ old new pass pass' refused.drew
@@ -58,7 +58,7 @@ unsnap-drew disk id Memory old new pass pass' did = absurd did
 
 -- a digest step
 pub digest-drew : {D : Type 0} (disk : Ghosts D) (id : CmdId) (answer : Answer) (old new : Keeper D) (pass pass' : PassToken) → DigestDid disk id answer old new pass pass'
-    → PassDrew (request_events id DigestRequest answer) no_write pass pass'
+    → ChunkDrew (request_events id DigestRequest answer) no_write pass pass' old.entries new.entries
 digest-drew disk id Fine old new pass pass' did = absurd did
 digest-drew disk id Range old new pass pass' did = absurd did
 digest-drew disk id (Fault device count) old new pass pass' (step, inl refused) = keeper-drew _ old new pass pass' refused.drew
@@ -78,7 +78,7 @@ digest-drew disk id Memory old new pass pass' did = absurd did
 
 -- a status
 pub status-drew : {D : Type 0} (disk : Ghosts D) (id : CmdId) (answer : Answer) (old new : Keeper D) (pass pass' : PassToken) → StatusDid disk id answer old new pass pass'
-    → PassDrew (request_events id StatusRequest answer) no_write pass pass'
+    → ChunkDrew (request_events id StatusRequest answer) no_write pass pass' old.entries new.entries
 status-drew disk id Fine old new pass pass' did = absurd did
 status-drew disk id Range old new pass pass' did = absurd did
 status-drew disk id (Fault device count) old new pass pass' did = keeper-drew _ old new pass pass' did.drew
@@ -97,7 +97,7 @@ status-drew disk id Memory old new pass pass' did = absurd did
 
 -- a list
 pub list-drew : {D : Type 0} (disk : Ghosts D) (id : CmdId) (since : ℕ) (snap : Bool) (answer : Answer) (old new : Keeper D) (pass pass' : PassToken) → ListDid disk id since snap answer old new pass pass'
-    → PassDrew (request_events id (ListRequest since snap) answer) no_write pass pass'
+    → ChunkDrew (request_events id (ListRequest since snap) answer) no_write pass pass' old.entries new.entries
 list-drew disk id since snap Fine old new pass pass' did = absurd did
 list-drew disk id since snap Range old new pass pass' did = absurd did
 list-drew disk id since snap (Fault device count) old new pass pass' did = keeper-drew _ old new pass pass' did.1.drew

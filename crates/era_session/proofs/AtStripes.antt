@@ -11,6 +11,7 @@ use Rattle.std.specs.Vec.{with_item}
 use Rattle.era_gate.specs.Calls.{GateToken, PassToken, StripeToken, has_lane}
 use Rattle.era_keeper.specs.Keepers.{KeeperFits, KeeperStands}
 use Rattle.era_gate.specs.Passes.{KeepsPass}
+use Rattle.era_gate.specs.Requests.{LanesAskForMarks}
 use Rattle.era_keeper.specs.Calls.{SameKeeper}
 use Rattle.era_keeper.specs.declared.keeper.Keeper.{Keeper}
 use Rattle.era_model.specs.Marks.{blocks_of_marks}
@@ -81,8 +82,8 @@ ending-stays {D} old new plan count ending = record {
 pub session-fits : {D : Type 0} (disk : Ghosts D) (drawn : ℕ) (issued : CmdId → Bool) (old new : Session D) → SessionFits disk old → SamePlan old new → length new.stripes.items ≡ length old.stripes.items
     → ((k : ℕ) (stripe : Stripe D) → slice_get new.stripes.items k ≡ Some stripe → IsStripeOf disk new k stripe)
     → KeeperFits disk new.keeper → SameKeeper disk old.keeper new.keeper → blocks_of_marks new.keeper.meta.marks ≡ blocks_of_marks old.keeper.meta.marks
-    → KeepsPass drawn issued old.pass new.pass → SessionFits disk new
-session-fits disk drawn issued old new fits plan count stripes keeper same marks keeps = record {
+    → KeepsPass drawn issued old.pass new.pass → LanesAskForMarks new.pass.part.lanes → SessionFits disk new
+session-fits disk drawn issued old new fits plan count stripes keeper same marks keeps asked = record {
   stripes = stripes;
   keeper = keeper;
   tables = (
@@ -90,6 +91,7 @@ session-fits disk drawn issued old new fits plan count stripes keeper same marks
     keeps.table ∙ fits.tables.1 ∙ ap (λ (gate : GateToken). gate.table) (sym plan.gate),
   );
   lanes = λ l below. keeps.lanes l ∙ fits.lanes l below;
+  asked = asked;
   blocks = ap (λ (gate : GateToken). gate.plan.blocks) plan.gate ∙ fits.blocks ∙ sym (same-blocks old new plan);
   marks = marks ∙ fits.marks ∙ sym (same-blocks old new plan);
   shared = shared-stays old new plan count fits.shared;

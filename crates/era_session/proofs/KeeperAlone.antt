@@ -7,6 +7,7 @@ use Rattle.era_base.specs.declared.disk.Disk.{Ghosts}
 use Rattle.era_base.specs.declared.ids.CmdId.{CmdId}
 use Rattle.era_gate.specs.Calls.{KeeperToken}
 use Rattle.era_gate.specs.Passes.{KeepsPass}
+use Rattle.era_gate.specs.Requests.{LanesAskForMarks}
 use Rattle.era_keeper.specs.Calls.{SameKeeper}
 use Rattle.era_keeper.specs.Keepers.{KeeperFits, KeeperStands, ViewStands, comes_back, view_of as keeper_view}
 use Rattle.era_keeper.specs.Results.{AnswersCount}
@@ -24,11 +25,11 @@ use Rattle.era_stripe.specs.declared.stripe.Stripe.{Stripe}
 
 -- it fits together
 pub alone-fits : {D : Type 0} (disk : Ghosts D) (drawn : ℕ) (issued : CmdId → Bool) (old new : Session D) → SessionFits disk old → SamePlan old new → new.stripes.items ≡ old.stripes.items → KeeperFits disk new.keeper
-    → SameKeeper disk old.keeper new.keeper → KeepsPass drawn issued old.pass new.pass → SessionFits disk new
-alone-fits {D} disk drawn issued old new fits plan is keeper same keeps =
+    → SameKeeper disk old.keeper new.keeper → KeepsPass drawn issued old.pass new.pass → LanesAskForMarks new.pass.part.lanes → SessionFits disk new
+alone-fits {D} disk drawn issued old new fits plan is keeper same keeps asked =
     session-fits disk drawn issued old new fits plan (ap length is)
     (λ k stripe at. stripe-stays disk old new k stripe plan (fits.stripes k stripe (subst (λ (all : List (Stripe D)). slice_get all k ≡ Some stripe) is at)))
-    keeper same (ap₂ blocks_of same.sectors same.block_sectors) keeps
+    keeper same (ap₂ blocks_of same.sectors same.block_sectors) keeps asked
 
 -- it stands
 pub alone-stands : {D : Type 0} (disk : Ghosts D) (opening : Opening) (old new : Session D) → SessionStands disk opening old → SamePlan old new → new.stripes.items ≡ old.stripes.items → KeeperStands disk opening new.keeper

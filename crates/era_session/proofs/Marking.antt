@@ -1,30 +1,34 @@
 -- A marking step by step: what each call of it asks, and what it drew.
-use Rattle.std.proofs.Common.{◌≡◌, ℕ, ◌+◌, ◌<◌, ◌||◌, Bool, true, false, List, [], ◌∷◌, length, Option, None, Ok, Err, refl, sym, ap, ap₂, ◌∙◌, subst, arith, inl, inr}
+use Rattle.std.proofs.Common.{◌≡◌, ℕ, ◌+◌, ◌<◌, ◌||◌, Bool, true, false, List, [], ◌∷◌, ◌++◌, length, Option, None, Ok, Err, refl, sym, ap, ap₂, ◌∙◌, subst, arith, inl, inr}
 use Rattle.std.specs.Prelude.{is_some}
 use Rattle.std.proofs.lemmas.Bool.{eq-eqb}
-use Rattle.std.proofs.lemmas.List.{append-nil}
 use Rattle.era_base.specs.Flags.{has}
 use Rattle.era_base.specs.Geometry.{blocks_of}
 use Rattle.era_base.specs.declared.disk.Disk.{Ghosts}
 use Rattle.era_base.specs.declared.ids.CmdId.{CmdId}
 use Rattle.era_gate.specs.Calls.{GateToken, KeeperToken, PassToken, StripeToken, enters, has_mark, has_seen, pass_enters, sees}
 use Rattle.era_gate.specs.Passes.{KeepsPass, no_write}
+use Rattle.era_gate.specs.Receipts.{entries_in}
 use Rattle.era_gate.specs.declared.stays.Stay.{Stay}
 use Rattle.era_keeper.specs.Calls.{Drew as KeeperDrew, MayCall as KeeperMayCall, SameKeeper}
 use Rattle.era_keeper.specs.Keepers.{KeeperFits}
 use Rattle.era_keeper.specs.Results.{MarkDid}
 use Rattle.era_keeper.specs.declared.keeper.Keeper.{Keeper}
 use Rattle.era_model.specs.Marks.{blocks_of_marks}
+use Rattle.era_model.specs.declared.entry.Entry.{Entry}
 use Rattle.era_model.specs.declared.event.Event.{Event}
 use Rattle.era_model.specs.declared.event.Event.TheVariants.{Refused, Tried}
 use Rattle.era_model.specs.declared.event.Kind.TheVariants.{Write as WriteKind}
 use Rattle.era_model.specs.declared.event.Why.TheVariants.{MetaFault}
 use Rattle.era_notes.specs.Notes.{first_device}
+use Rattle.era_notes.specs.Rooms.{last_in}
+use Rattle.era_notes.specs.declared.chunks.Chunks.{Chunks}
+use Rattle.era_session.specs.Chunks.{ChunkDrew}
 use Rattle.era_session.specs.Desks.{DeskFits, desk}
 use Rattle.era_session.specs.Marking.{IsInsideFor, MayMark}
 use Rattle.era_session.specs.Receipts.{PassDrew}
 use Rattle.era_session.specs.Writes.{IsFailedMarking, marking_events}
-use Rattle.era_session.proofs.Receipts.{drew-both, drew-entering, drew-nothing, keeper-drew, keeps-both}
+use Rattle.era_session.proofs.Receipts.{drew-entering, keeper-drew, keeps-both, no-entries, own-trail, trail-both}
 use Rattle.era_stripe.specs.Calls.{MayBeShown, MayEnter, MayLeave, SameButStay, SameStripe}
 use Rattle.era_stripe.specs.Stripes.{IsAtRest, StripeFits}
 use Rattle.era_stripe.specs.declared.cut_write.CutWrite.{CutWrite}
@@ -85,19 +89,19 @@ within-marks disk gate stripe keeper pass id block may = subst (λ n. block < n)
 
 -- what the keeper drew of a marking
 pub marked-drew : {D : Type 0} (disk : Ghosts D) (marked : Bool) (id : CmdId) (block : ℕ) (old new : Keeper D) (pass pass' : PassToken) → MarkDid disk marked id block (Ok tt) old new pass pass'
-    → PassDrew (marking_events marked id block old.meta.marks.era) no_write pass pass'
+    → ChunkDrew (marking_events marked id block old.meta.marks.era) no_write pass pass' old.entries new.entries
 marked-drew disk true id block old new pass pass' did = keeper-drew [] old new pass pass' did.1
 marked-drew disk false id block old new pass pass' did = keeper-drew (marking_events false id block old.meta.marks.era) old new pass pass' did.drew
 
 -- what it drew of one that failed
-pub record Failed (marked : Bool) (id : CmdId) (block era count : ℕ) (pass pass' : PassToken) : Type 0 where
+pub record Failed (marked : Bool) (id : CmdId) (block era count : ℕ) (pass pass' : PassToken) (chunks chunks' : Chunks) : Type 0 where
   pub unmarked : marked ≡ false
   pub events : List Event
   pub failed : IsFailedMarking id block era count events
-  pub drew : PassDrew events no_write pass pass'
+  pub drew : ChunkDrew events no_write pass pass' chunks chunks'
 
 pub failed-drew : {D : Type 0} (disk : Ghosts D) (marked : Bool) (id : CmdId) (block count : ℕ) (old new : Keeper D) (pass pass' : PassToken) → MarkDid disk marked id block (Err count) old new pass pass'
-    → Failed marked id block old.meta.marks.era count pass pass'
+    → Failed marked id block old.meta.marks.era count pass pass' old.entries new.entries
 failed-drew disk true id block count old new pass pass' did = absurd did
 failed-drew disk false id block count old new pass pass' (inl first) = record {
   unmarked = refl;
@@ -113,14 +117,28 @@ failed-drew disk false id block count old new pass pass' (inr failed) = record {
 }
 
 -- a pass that a stripe left by drew nothing
-pub left-drew : (events : List Event) (a b c : PassToken) → PassDrew events no_write a b → c.part.lanes ≡ b.part.lanes → KeepsPass 0 no_write b c → PassDrew events no_write a c
-left-drew events a b c drew lanes keeps =
-    subst (λ (all : List Event). PassDrew all no_write a c) (append-nil events)
-    (drew-both events [] no_write no_write no_write a b c (λ id none. (none, none)) drew (drew-nothing no_write b c lanes keeps))
+pub left-drew : (events : List Event) (chunks chunks' : Chunks) (a b c : PassToken) → ChunkDrew events no_write a b chunks chunks' → c.part.lanes ≡ b.part.lanes → KeepsPass 0 no_write b c → ChunkDrew events no_write a c chunks chunks'
+left-drew events chunks chunks' a b c own lanes keeps = record {
+  drew = record {
+    receipts = own.drew.receipts;
+    are = own.drew.are;
+    lanes = lanes ∙ own.drew.lanes;
+    keeps =
+        let all : length events + 0 ≡ length events = omega arith in
+        subst (λ n. KeepsPass n no_write a c) all (keeps-both (length events) 0 no_write no_write no_write a b c (λ id none. (none, none)) own.drew.keeps keeps);
+  };
+  last = own.last;
+}
 
 -- a pass that a stripe entered by
-pub entered-drew : (events : List Event) (a b c : PassToken) → PassDrew [] no_write a b → PassDrew events no_write b c → PassDrew events no_write a c
-entered-drew events a b c first drew = drew-both [] events no_write no_write no_write a b c (λ id none. (none, none)) first drew
+pub entered-drew : (events : List Event) (chunks chunks' : Chunks) (a b c : PassToken) → PassDrew [] no_write a b → ChunkDrew events no_write b c chunks chunks' → ChunkDrew events no_write a c chunks chunks'
+entered-drew events chunks chunks' a b c first own =
+    let none : entries_in first.receipts ≡ [] = no-entries (entries_in first.receipts) first.are in
+    let all = trail-both [] events (entries_in first.receipts) (entries_in own.drew.receipts) no_write no_write no_write a b c (λ id none. (none, none)) (own-trail [] no_write a b first) (own-trail events no_write b c own.drew) in
+    record {
+      drew = all.drew;
+      last = own.last ∙ ap (λ (es : List Entry). last_in chunks ++ es) (sym (all.are ∙ ap (λ (es : List Entry). es ++ entries_in own.drew.receipts) none));
+    }
 
 -- what the keeper drew is the same once the stripe left
 keeper-left : {D : Type 0} (events : List Event) (old new : Keeper D) (a b c : PassToken) → c.part.lanes ≡ b.part.lanes → KeepsPass 0 no_write b c → KeeperDrew events old new a b → KeeperDrew events old new a c

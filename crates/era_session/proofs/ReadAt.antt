@@ -11,12 +11,13 @@ use Rattle.era_keeper.specs.declared.keeper.Keeper.{Keeper}
 use Rattle.era_model.specs.declared.reply.Answer.{Answer}
 use Rattle.era_model.specs.declared.reply.Answer.TheVariants.{Fault, Found, Range}
 use Rattle.era_model.specs.declared.reply.Device.TheVariants.{Data as DataDevice}
+use Rattle.era_notes.specs.Rooms.{last_in}
 use Rattle.era_session.specs.AtStripes.{DidAt}
 use Rattle.era_session.specs.Desks.{desk}
 use Rattle.era_session.specs.Reads.{ReadAt, ReadDid, read_events}
 use Rattle.era_session.specs.declared.session.Session.{Session}
 use Rattle.era_session.proofs.AtStripes.{keeper-same}
-use Rattle.era_session.proofs.Receipts.{stripe-drew}
+use Rattle.era_session.proofs.Receipts.{last-first, stripe-drew}
 use Rattle.era_stripe.specs.Calls.{Drew, SameStripe}
 use Rattle.era_stripe.specs.declared.stripe.Stripe.{Stripe}
 
@@ -41,30 +42,32 @@ keeps-itself pass = record {
 }
 
 -- the bytes were read
-pub read-found : {D : Type 0} (disk : Ghosts D) (id : CmdId) (sector count : ℕ) (bytes : List ℕ) (before new : Stripe D) (pass pass' : PassToken) (keeper : Keeper D) → length bytes ≡ count * 512
+pub read-found : {D : Type 0} (disk : Ghosts D) (id : CmdId) (sector count : ℕ) (bytes : List ℕ) (before new : Stripe D) (pass pass' : PassToken) (keeper : Keeper D) → length bytes ≡ count * 512 → last_in before.entries ≡ []
     → Drew (read_events id sector before.index (Found bytes)) no_write before new pass pass'
     → (disk.tells ≡ true → Reads {T = Unit} {E = ℕ} (sector - before.first_block * before.geometry.block_sectors) bytes (Ok tt) (disk.history before.disk) (disk.history new.disk))
     → SameStripe disk before new → HasCount {T = Unit} (disk.faults before.disk) (disk.faults new.disk) (Ok tt)
     → ReadAt disk id sector count (Found bytes) (desk before keeper pass) (desk new keeper pass')
-read-found disk id sector count bytes before new pass pass' keeper size drew told same cause = record {
+read-found disk id sector count bytes before new pass pass' keeper size undrawn drew told same cause = record {
   answers = size;
   called = told;
-  drew = stripe-drew (read_events id sector before.index (Found bytes)) no_write before new pass pass' drew;
+  drew = (stripe-drew (read_events id sector before.index (Found bytes)) no_write before new pass pass' drew).drew;
+  trail = sym (last-first before.entries new.entries _ undrawn (stripe-drew (read_events id sector before.index (Found bytes)) no_write before new pass pass' drew).last);
   keeper = refl;
   same = record { stripe = same; keeper = keeper-same disk keeper };
   cause = (cause.cause.kept, refl);
 }
 
 -- the part failed
-pub read-failed : {D : Type 0} (disk : Ghosts D) (id : CmdId) (sector count failed : ℕ) (bytes : List ℕ) (before new : Stripe D) (pass pass' : PassToken) (keeper : Keeper D)
+pub read-failed : {D : Type 0} (disk : Ghosts D) (id : CmdId) (sector count failed : ℕ) (bytes : List ℕ) (before new : Stripe D) (pass pass' : PassToken) (keeper : Keeper D) → last_in before.entries ≡ []
     → Drew (read_events id sector before.index (Fault DataDevice failed)) no_write before new pass pass'
     → (disk.tells ≡ true → Reads {T = Unit} {E = ℕ} (sector - before.first_block * before.geometry.block_sectors) bytes (Err failed) (disk.history before.disk) (disk.history new.disk))
     → SameStripe disk before new → HasCount {T = Unit} (disk.faults before.disk) (disk.faults new.disk) (Err failed)
     → ReadAt disk id sector count (Fault DataDevice failed) (desk before keeper pass) (desk new keeper pass')
-read-failed disk id sector count failed bytes before new pass pass' keeper drew told same cause = record {
+read-failed disk id sector count failed bytes before new pass pass' keeper undrawn drew told same cause = record {
   answers = refl;
   called = λ tells. (bytes, told tells);
-  drew = stripe-drew (read_events id sector before.index (Fault DataDevice failed)) no_write before new pass pass' drew;
+  drew = (stripe-drew (read_events id sector before.index (Fault DataDevice failed)) no_write before new pass pass' drew).drew;
+  trail = sym (last-first before.entries new.entries _ undrawn (stripe-drew (read_events id sector before.index (Fault DataDevice failed)) no_write before new pass pass' drew).last);
   keeper = refl;
   same = record { stripe = same; keeper = keeper-same disk keeper };
   cause = (cause.count, cause.cause.failed, refl);

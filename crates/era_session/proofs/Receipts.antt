@@ -3,7 +3,6 @@ use Rattle.std.proofs.Common.{◌≡◌, ℕ, ◌+◌, ◌==◌, Bool, true, fal
 use Rattle.std.proofs.lemmas.List.{append_assoc, append-nil, length-append}
 use Rattle.std.proofs.lemmas.List.Elements.{filter-append}
 use Rattle.era_base.specs.declared.ids.CmdId.{CmdId}
-use Rattle.era_gate.specs.Acts.{entry, lane_of}
 use Rattle.era_gate.specs.Calls.{PassToken, pass_draws, pass_enters, receives}
 use Rattle.era_gate.specs.Passes.{KeepsPass, no_write}
 use Rattle.era_gate.specs.Receipts.{entries_in}
@@ -16,6 +15,9 @@ use Rattle.era_keeper.specs.Calls.{Drew as KeeperDrew, after_draws as keeper_dra
 use Rattle.era_keeper.specs.declared.keeper.Keeper.{Keeper}
 use Rattle.era_model.specs.declared.entry.Entry.{Entry}
 use Rattle.era_model.specs.declared.event.Event.{Event}
+use Rattle.era_notes.specs.Rooms.{last_in}
+use Rattle.era_notes.specs.declared.chunks.Chunks.{Chunks}
+use Rattle.era_session.specs.Chunks.{ChunkDrew}
 use Rattle.era_session.specs.Receipts.{PassDrew, events_in, gets, receipt_lane}
 use Rattle.era_stripe.specs.Calls.{Drew as StripeDrew, after_draws as stripe_draws}
 use Rattle.era_stripe.specs.declared.stripe.Stripe.{Stripe}
@@ -58,7 +60,7 @@ of-entries-are : (entries : List Entry) → entries_in (of-entries entries) ≡ 
 of-entries-are [] = refl
 of-entries-are (e ∷ entries) = ap (λ l. e ∷ l) (of-entries-are entries)
 
-entries-both : (a b : List Receipt) → entries_in (a ++ b) ≡ entries_in a ++ entries_in b
+pub entries-both : (a b : List Receipt) → entries_in (a ++ b) ≡ entries_in a ++ entries_in b
 entries-both [] b = refl
 entries-both (OfEvent e ∷ a) b = ap (λ l. e ∷ l) (entries-both a b)
 entries-both (OfStay stay ∷ a) b = entries-both a b
@@ -81,23 +83,52 @@ keeper-lanes (e ∷ entries) pass =
     ∙ ap (map (gets (of-entries entries))) (lanes-one (OfEvent e) pass.lanes)
     ∙ lanes-both (OfEvent e ∷ []) (of-entries entries) pass.lanes
 
+-- what a pass drew, with its entries
+pub record DrewTrail (events : List Event) (trail : List Entry) (issued : CmdId → Bool) (a b : PassToken) : Type 0 where
+  pub drew : PassDrew events issued a b
+  pub are : entries_in drew.receipts ≡ trail
+
+pub own-trail : (events : List Event) (issued : CmdId → Bool) (a b : PassToken) (drew : PassDrew events issued a b) → DrewTrail events (entries_in drew.receipts) issued a b
+own-trail events issued a b drew = record { drew = drew; are = refl }
+
+-- chunks that had no entries of the command have just those that it drew
+pub last-first : (old new : Chunks) (own : List Entry) → last_in old ≡ [] → last_in new ≡ last_in old ++ own → last_in new ≡ own
+last-first old new own none last = last ∙ ap (λ (es : List Entry). es ++ own) none
+
 -- what a stripe drew, by its receipts
-pub stripe-drew : {D : Type 0} (events : List Event) (issued : CmdId → Bool) (old new : Stripe D) (pass pass' : PassToken) → StripeDrew events issued old new pass pass' → PassDrew events issued pass pass'
-stripe-drew events issued old new pass pass' drew = record {
-  receipts = of-entries drew.kept.entries;
-  are = ap events_in (of-entries-are drew.kept.entries) ∙ drew.kept.are;
-  lanes = drew.receipts ∙ stripe-lanes drew.kept.entries pass.part;
-  keeps = drew.keeps;
+pub stripe-trail : {D : Type 0} (events : List Event) (issued : CmdId → Bool) (old new : Stripe D) (pass pass' : PassToken) (drew : StripeDrew events issued old new pass pass') → DrewTrail events drew.kept.entries issued pass pass'
+stripe-trail events issued old new pass pass' drew = record {
+  drew = record {
+    receipts = of-entries drew.kept.entries;
+    are = ap events_in (of-entries-are drew.kept.entries) ∙ drew.kept.are;
+    lanes = drew.receipts ∙ stripe-lanes drew.kept.entries pass.part;
+    keeps = drew.keeps;
+  };
+  are = of-entries-are drew.kept.entries;
 }
 
+pub stripe-drew : {D : Type 0} (events : List Event) (issued : CmdId → Bool) (old new : Stripe D) (pass pass' : PassToken) → StripeDrew events issued old new pass pass'
+    → ChunkDrew events issued pass pass' old.entries new.entries
+stripe-drew events issued old new pass pass' drew =
+    let trail = stripe-trail events issued old new pass pass' drew in
+    record { drew = trail.drew; last = drew.kept.last ∙ ap (λ (es : List Entry). last_in old.entries ++ es) (sym trail.are) }
+
 -- what the keeper drew, by its receipts
-pub keeper-drew : {D : Type 0} (events : List Event) (old new : Keeper D) (pass pass' : PassToken) → KeeperDrew events old new pass pass' → PassDrew events no_write pass pass'
-keeper-drew events old new pass pass' drew = record {
-  receipts = of-entries drew.kept.entries;
-  are = ap events_in (of-entries-are drew.kept.entries) ∙ drew.kept.are;
-  lanes = drew.receipts ∙ keeper-lanes drew.kept.entries pass.part;
-  keeps = drew.keeps;
+pub keeper-trail : {D : Type 0} (events : List Event) (old new : Keeper D) (pass pass' : PassToken) (drew : KeeperDrew events old new pass pass') → DrewTrail events drew.kept.entries no_write pass pass'
+keeper-trail events old new pass pass' drew = record {
+  drew = record {
+    receipts = of-entries drew.kept.entries;
+    are = ap events_in (of-entries-are drew.kept.entries) ∙ drew.kept.are;
+    lanes = drew.receipts ∙ keeper-lanes drew.kept.entries pass.part;
+    keeps = drew.keeps;
+  };
+  are = of-entries-are drew.kept.entries;
 }
+
+pub keeper-drew : {D : Type 0} (events : List Event) (old new : Keeper D) (pass pass' : PassToken) → KeeperDrew events old new pass pass' → ChunkDrew events no_write pass pass' old.entries new.entries
+keeper-drew events old new pass pass' drew =
+    let trail = keeper-trail events old new pass pass' drew in
+    record { drew = trail.drew; last = drew.kept.last ∙ ap (λ (es : List Entry). last_in old.entries ++ es) (sym trail.are) }
 
 -- whoever kept a pass twice kept it, but for the writes of both
 pub keeps-both : (m n : ℕ) (one other issued : CmdId → Bool) (a b c : PassToken) → ((id : CmdId) → issued id ≡ false → (one id ≡ false) × (other id ≡ false)) → KeepsPass m one a b → KeepsPass n other b c → KeepsPass (m + n) issued a c
@@ -112,36 +143,47 @@ keeps-both m n one other issued a b c covers first second = record {
 }
 
 -- a pass that drew some events and then others drew all of them
-pub drew-both : (first second : List Event) (one other issued : CmdId → Bool) (a b c : PassToken) → ((id : CmdId) → issued id ≡ false → (one id ≡ false) × (other id ≡ false)) → PassDrew first one a b → PassDrew second other b c
-    → PassDrew (first ++ second) issued a c
-drew-both first second one other issued a b c covers before after = record {
-  receipts = before.receipts ++ after.receipts;
-  are = ap events_in (entries-both before.receipts after.receipts) ∙ events-both (entries_in before.receipts) (entries_in after.receipts)
-      ∙ ap₂ (λ (x y : List Event). x ++ y) before.are after.are;
-  lanes = after.lanes ∙ ap (map (gets after.receipts)) before.lanes ∙ lanes-both before.receipts after.receipts a.part.lanes;
-  keeps = subst (λ n. KeepsPass n issued a c) (sym (length-append first second)) (keeps-both (length first) (length second) one other issued a b c covers before.keeps after.keeps);
+pub trail-both : (first second : List Event) (before after : List Entry) (one other issued : CmdId → Bool) (a b c : PassToken) → ((id : CmdId) → issued id ≡ false → (one id ≡ false) × (other id ≡ false)) → DrewTrail first before one a b
+    → DrewTrail second after other b c → DrewTrail (first ++ second) (before ++ after) issued a c
+trail-both first second before after one other issued a b c covers x y = record {
+  drew = record {
+    receipts = x.drew.receipts ++ y.drew.receipts;
+    are = ap events_in (entries-both x.drew.receipts y.drew.receipts) ∙ events-both (entries_in x.drew.receipts) (entries_in y.drew.receipts)
+        ∙ ap₂ (λ (one two : List Event). one ++ two) x.drew.are y.drew.are;
+    lanes = y.drew.lanes ∙ ap (map (gets y.drew.receipts)) x.drew.lanes ∙ lanes-both x.drew.receipts y.drew.receipts a.part.lanes;
+    keeps = subst (λ n. KeepsPass n issued a c) (sym (length-append first second)) (keeps-both (length first) (length second) one other issued a b c covers x.drew.keeps y.drew.keeps);
+  };
+  are = entries-both x.drew.receipts y.drew.receipts ∙ ap₂ (λ (one two : List Entry). one ++ two) x.are y.are;
 }
 
 -- what issued no write, or one of these alone, issued no others
-pub drew-wider : (events : List Event) (one issued : CmdId → Bool) (a b : PassToken) → ((id : CmdId) → issued id ≡ false → one id ≡ false) → PassDrew events one a b → PassDrew events issued a b
-drew-wider events one issued a b covers drew = record {
-  receipts = drew.receipts;
-  are = drew.are;
-  lanes = drew.lanes;
-  keeps = record {
-    table = drew.keeps.table;
-    lanes = drew.keeps.lanes;
-    gone = λ id none. drew.keeps.gone id (covers id none);
-    budget = drew.keeps.budget;
-    floor = drew.keeps.floor;
-    begun = drew.keeps.begun;
-    ended = drew.keeps.ended;
+pub trail-wider : (events : List Event) (trail : List Entry) (one issued : CmdId → Bool) (a b : PassToken) → ((id : CmdId) → issued id ≡ false → one id ≡ false) → DrewTrail events trail one a b → DrewTrail events trail issued a b
+trail-wider events trail one issued a b covers x = record {
+  drew = record {
+    receipts = x.drew.receipts;
+    are = x.drew.are;
+    lanes = x.drew.lanes;
+    keeps = record {
+      table = x.drew.keeps.table;
+      lanes = x.drew.keeps.lanes;
+      gone = λ id none. x.drew.keeps.gone id (covers id none);
+      budget = x.drew.keeps.budget;
+      floor = x.drew.keeps.floor;
+      begun = x.drew.keeps.begun;
+      ended = x.drew.keeps.ended;
+    };
   };
+  are = x.are;
 }
 
+-- no event is of no entry
+pub no-entries : (entries : List Entry) → events_in entries ≡ [] → entries ≡ []
+no-entries [] is = refl
+no-entries (e ∷ entries) is = absurd (let none = ap (λ (es : List Event). length es) is in omega (arith, none))
+
 -- a pass whose lanes stay drew nothing
-pub drew-nothing : (issued : CmdId → Bool) (a b : PassToken) → b.part.lanes ≡ a.part.lanes → KeepsPass 0 issued a b → PassDrew [] issued a b
-drew-nothing issued a b same keeps = record { receipts = []; are = refl; lanes = same ∙ lanes-none a.part.lanes; keeps = keeps }
+pub trail-nothing : (issued : CmdId → Bool) (a b : PassToken) → b.part.lanes ≡ a.part.lanes → KeepsPass 0 issued a b → DrewTrail [] [] issued a b
+trail-nothing issued a b same keeps = record { drew = record { receipts = []; are = refl; lanes = same ∙ lanes-none a.part.lanes; keeps = keeps }; are = refl }
 
 -- a pass by which a stripe entered has the receipt of the stay, and drew nothing
 pub drew-entering : (stay : Stay) (a b : PassToken) → b ≡ record { table = a.table; part = pass_enters a.part stay } → KeepsPass 0 no_write a b → PassDrew [] no_write a b

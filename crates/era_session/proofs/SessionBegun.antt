@@ -1,12 +1,16 @@
 -- A session that was begun over metadata and parts fits together, and stands in the opening of both.
-use Rattle.std.proofs.Common.{◌≡◌, ℕ, ◌+◌, ◌-◌, ◌*◌, ◌<◌, Bool, true, false, List, length, min, Option, Some, None, slice_get, refl, sym, ap, ◌∙◌, subst, arith, inl, inr}
+use Rattle.std.proofs.Common.{◌≡◌, ℕ, zero, suc, ◌+◌, ◌-◌, ◌*◌, ◌<◌, Bool, true, false, List, length, min, Option, Some, None, slice_get, refl, sym, ap, ◌∙◌, subst, arith, inl, inr}
 use Rattle.std.specs.Prelude.{unwrap_or, if◌then◌else◌}
 use Rattle.std.proofs.lemmas.List.{map-id}
 use Rattle.std.proofs.lemmas.Option.{slice_get_within}
+use Rattle.era_base.specs.Flags.{tabulate}
 use Rattle.era_base.specs.Geometry.{blocks_of, stripe_blocks}
 use Rattle.era_base.specs.declared.disk.Disk.{Ghosts}
 use Rattle.era_base.specs.declared.geometry.Geometry.{Geometry}
 use Rattle.era_gate.specs.Calls.{AreStripeSeats, StripeToken, TableId, has_lane, new_pass, new_seat, plan_of}
+use Rattle.era_gate.specs.Parts.{new_lane}
+use Rattle.era_gate.specs.Requests.{LanesAskForMarks}
+use Rattle.era_gate.specs.declared.parts.PassPart.{PassPart}
 use Rattle.era_gate.specs.declared.plan.Plan.{Plan}
 use Rattle.era_keeper.specs.Keepers.{IsOpenedOver, KeeperFits, KeeperStands, comes_back}
 use Rattle.era_meta.specs.Held.{snapshot_marks}
@@ -108,6 +112,11 @@ shared-out disk sizes parts session was =
       some = λ k low. rw (was.each, blocks) (was.are.split.some k (omega (arith, low, count)));
     }
 
+-- lanes without receipts have no marks
+new-asked : (first count : ℕ) → LanesAskForMarks (tabulate first count new_lane)
+new-asked first zero = tt
+new-asked first (suc count) = (tt, new-asked (first + 1) count)
+
 pub begun-fits : {D : Type 0} (disk : Ghosts D) (sizes : Geometry) (parts : List D) (session : Session D) → WasBegun disk sizes parts session → SessionFits disk session
 begun-fits disk sizes parts session was =
     let blocks = same-blocks session sizes was.geometry in
@@ -117,6 +126,7 @@ begun-fits disk sizes parts session was =
       keeper = was.keeper;
       tables = was.tables;
       lanes = was.lanes;
+      asked = subst (λ (pass : PassPart). LanesAskForMarks pass.lanes) (sym was.pass) (new-asked 0 65);
       blocks = ap (λ (p : Plan). p.blocks) was.plan ∙ sym blocks;
       marks = ap (λ n. blocks_of n session.keeper.meta.marks.block_sectors) (sym fit.sectors ∙ was.begun.geometry.0)
           ∙ ap (λ n. blocks_of sizes.sectors n) (sym fit.block_sectors ∙ was.begun.geometry.1) ∙ sym blocks;

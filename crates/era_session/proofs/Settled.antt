@@ -1,14 +1,18 @@
 -- What a settling came to at a stripe, for a checkpoint: what was drawn, and what is still cut.
-use Rattle.std.proofs.Common.{◌≡◌, ℕ, suc, ◌+◌, ◌++◌, ◌≤◌, true, List, [], ◌∷◌, length, Option, Some, None, Result, Ok, Err, refl, sym, ap, ◌∙◌, subst, arith}
+use Rattle.std.proofs.Common.{◌≡◌, ℕ, zero, suc, ◌+◌, ◌++◌, ◌≤◌, true, List, [], ◌∷◌, length, slice_get, slice_set, take, Option, Some, None, Result, Ok, Err, refl, sym, ap, ◌∙◌, subst, arith}
 use Rattle.std.specs.Prelude.{is_some, vec_len}
 use Rattle.era_base.specs.Faults.{HasCount}
 use Rattle.era_base.specs.declared.disk.Disk.{Ghosts}
 use Rattle.era_base.specs.declared.ids.CmdId.{CmdId}
 use Rattle.era_gate.specs.Calls.{PassToken}
 use Rattle.era_gate.specs.Passes.{KeepsPass, no_write}
-use Rattle.std.proofs.lemmas.List.{length-append}
+use Rattle.std.proofs.lemmas.List.{append_assoc, append-nil, length-append}
+use Rattle.std.proofs.lemmas.Option.{none-some}
+use Rattle.era_model.specs.declared.entry.Entry.{Entry}
 use Rattle.era_model.specs.declared.event.Event.{Event}
-use Rattle.era_session.proofs.Receipts.{drew-both, drew-nothing}
+use Rattle.era_notes.specs.Rooms.{last_in}
+use Rattle.era_session.proofs.Receipts.{trail-both, trail-nothing}
+use Rattle.era_session.specs.Chunks.{stripes_trail}
 use Rattle.era_session.specs.declared.session.Session.{Session}
 use Rattle.era_model.specs.declared.event.Event.TheVariants.{Unsettled}
 use Rattle.era_model.specs.declared.opening.Opening.{Opening}
@@ -73,13 +77,25 @@ cause-over {D} disk old before settled new result admitted left cause =
     subst (λ (d : D). HasCount (disk.faults d) (disk.faults new.disk) result) admitted
     (subst (λ (d : D). HasCount (disk.faults before.disk) (disk.faults d) result) (sym left) cause)
 
+-- the entries of stripes up to one that was replaced
+pub trail-to : {D : Type 0} (stripes : List (Stripe D)) (k : ℕ) (old new : Stripe D) → slice_get stripes k ≡ Some old → stripes_trail (take (suc k) (slice_set stripes k new)) ≡ stripes_trail (take k stripes) ++ last_in new.entries
+trail-to [] k old new found = absurd (none-some old found)
+trail-to (stripe ∷ stripes) zero old new found = append-nil (last_in new.entries)
+trail-to (stripe ∷ stripes) (suc k) old new found =
+    ap (λ (es : List Entry). last_in stripe.entries ++ es) (trail-to stripes k old new found)
+    ∙ sym (append_assoc (last_in stripe.entries) (stripes_trail (take k stripes)) (last_in new.entries))
+
 -- one stripe more
 pub settlings-next : {D : Type 0} (disk : Ghosts D) (by : CmdId) (k : ℕ) (own : List Event) (old between new : Session D) → Settlings disk by k old between → SettledAt disk by k own between new → Settlings disk by (k + 1) old new
-settlings-next disk by k own old between new before at =
+settlings-next {D} disk by k own old between new before at =
+    let all = trail-both before.events own (stripes_trail (take k between.stripes.items)) (last_in at.after.entries) no_write no_write no_write old.pass between.pass new.pass (λ id none. (none, none))
+    (record { drew = before.drew; are = before.trail }) (record { drew = at.did.drew; are = at.did.trail }) in
     let next : Settlings disk by (suc k) old new = record {
       events = before.events ++ own;
       below = (between, before.events, own, before.below, at, refl);
-      drew = drew-both before.events own no_write no_write no_write old.pass between.pass new.pass (λ id none. (none, none)) before.drew at.did.drew;
+      drew = all.drew;
+      trail = all.are ∙ sym (ap (λ (xs : List (Stripe D)). stripes_trail (take (suc k) xs)) at.stripes
+          ∙ trail-to between.stripes.items k at.stripe at.after at.found);
       few = few-more (subst (λ (events : List Event). length events ≤ 1) (sym at.did.events_are) (few-settled at.stripe.cut by at.did.bytes at.did.result));
     } in
     let one : suc k ≡ k + 1 = omega arith in
@@ -90,10 +106,11 @@ settlings-next disk by k own old between new before at =
 
 -- none yet
 pub settlings-none : {D : Type 0} (disk : Ghosts D) (by : CmdId) (session : Session D) → Settlings disk by 0 session session
-settlings-none disk by session = record {
+settlings-none disk by session = let none = trail-nothing no_write session.pass session.pass refl (keeps-none session.pass) in record {
   events = [];
   below = (refl, refl);
-  drew = drew-nothing no_write session.pass session.pass refl (keeps-none session.pass);
+  drew = none.drew;
+  trail = none.are;
   few = omega arith;
 }
   where

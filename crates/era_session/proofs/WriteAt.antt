@@ -1,5 +1,5 @@
 -- A write at a stripe of a session: that it may be made there, and what it leaves of the session.
-use Rattle.std.proofs.Common.{◌≡◌, ℕ, ◌+◌, ◌*◌, ◌/◌, ◌%◌, ◌<◌, ◌≤◌, Bool, true, false, List, ◌++◌, length, Option, Some, None, Result, Ok, Err, slice_get, refl, sym, ap, ap₂, ◌∙◌, subst, arith, inl, inr}
+use Rattle.std.proofs.Common.{◌≡◌, ℕ, ◌+◌, ◌*◌, ◌/◌, ◌%◌, ◌<◌, ◌≤◌, Bool, true, false, List, [], ◌++◌, length, Option, Some, None, Result, Ok, Err, slice_get, refl, sym, ap, ap₂, ◌∙◌, subst, arith, inl, inr}
 use Rattle.std.specs.Prelude.{is_some}
 use Rattle.std.proofs.lemmas.List.{length-append}
 use Rattle.std.proofs.lemmas.Nat.{div-add-mod'}
@@ -10,6 +10,7 @@ use Rattle.era_base.specs.declared.geometry.Geometry.{Geometry}
 use Rattle.era_base.specs.declared.ids.CmdId.{CmdId}
 use Rattle.era_gate.specs.Calls.{KeeperToken, PassToken, StripeToken, has_gone}
 use Rattle.era_gate.specs.Passes.{KeepsPass}
+use Rattle.era_gate.specs.Requests.{LanesAskForMarks}
 use Rattle.era_keeper.specs.Calls.{SameKeeper}
 use Rattle.era_keeper.specs.Keepers.{KeeperFits}
 use Rattle.era_keeper.specs.declared.keeper.Keeper.{Keeper}
@@ -22,7 +23,7 @@ use Rattle.era_model.specs.declared.reply.Answer.TheVariants.{Fine, Range, Fault
 use Rattle.era_model.specs.declared.reply.Device.TheVariants.{Data as DataDevice, Meta as MetaDevice}
 use Rattle.era_notes.specs.Notes.{first_device}
 use Rattle.era_notes.specs.Parts.{IsIn, IsPlace, Part}
-use Rattle.era_notes.specs.Rooms.{HoldBytes, free_in}
+use Rattle.era_notes.specs.Rooms.{HoldBytes, free_in, last_in}
 use Rattle.era_notes.specs.declared.buffers.Buffers.{Buffers}
 use Rattle.era_notes.specs.declared.room.TheConstants.{ROOM_ENTRIES}
 use Rattle.era_session.specs.AtStripes.{IsAdmitted, IsKeeperAdmitted, WriteDid, WroteAt}
@@ -68,9 +69,9 @@ holds-fewer count more (Some buffers) less holds = (let a = holds.0 in omega (ar
 -- a write may be made at the stripe of its block
 pub may-write-at : {D : Type 0} (disk : Ghosts D) (session : Session D) (stripe admitted : Stripe D) (keeper : Keeper D) (id : CmdId) (block first count room : ℕ) → MayCommand disk session id → has_gone id session.pass.part.lanes ≡ false
     → slice_get session.stripes.items (block / session.each) ≡ Some stripe → block < session_blocks session → IsPlace session.geometry block first count → IsAdmitted disk stripe admitted → StripeFits disk admitted
-    → ROOM_ENTRIES ≤ free_in admitted.entries → HoldBytes room admitted.room → count ≤ room → IsKeeperAdmitted disk session.keeper keeper → KeeperFits disk keeper → ROOM_ENTRIES ≤ free_in keeper.entries
+    → ROOM_ENTRIES ≤ free_in admitted.entries → HoldBytes room admitted.room → count ≤ room → IsKeeperAdmitted disk session.keeper keeper → KeeperFits disk keeper → ROOM_ENTRIES ≤ free_in keeper.entries → last_in keeper.entries ≡ []
     → MayWrite disk session.gate (desk admitted keeper session.pass) id block first count
-may-write-at {D} disk session stripe admitted keeper id block first count room may once found below place is own free holds enough keeper-is keeper-fits keeper-free =
+may-write-at {D} disk session stripe admitted keeper id block first count room may once found below place is own free holds enough keeper-is keeper-fits keeper-free undrawn =
     let fits = may.fits in
     let of = fits.stripes (block / session.each) stripe found in
     let same = admitted-stripe disk stripe admitted is in
@@ -88,6 +89,7 @@ may-write-at {D} disk session stripe admitted keeper id block first count room m
       budget = let b = may.budget in omega (arith, b);
       once = once;
       rooms = (free, keeper-free);
+      undrawn = (is.last, undrawn);
       of_origin = subst (λ n. block < n) (sym fits.blocks) below;
       hold = record {
         of_part = subst (λ (p : Part). IsIn p block) (ap (λ (v : StripeView). v.part) (sym is.view)) lies;
@@ -157,14 +159,14 @@ keeper-written disk old admitted keeper after is same = admitted-same disk old.k
 -- a session fits together behind a command at one of its stripes
 pub fits-written : {D : Type 0} (disk : Ghosts D) (drawn : ℕ) (issued : CmdId → Bool) (old : Session D) (k : ℕ) (stripe admitted : Stripe D) (keeper : Keeper D) (after : Desk D) → SessionFits disk old → slice_get old.stripes.items k ≡ Some stripe
     → IsAdmitted disk stripe admitted → IsKeeperAdmitted disk old.keeper keeper → DeskFits disk old.gate after → SameDesk disk (desk admitted keeper old.pass) after → KeepsPass drawn issued old.pass after.pass
-    → SessionFits disk (with-stripe old k after.stripe after.keeper after.pass)
-fits-written disk drawn issued old k stripe admitted keeper after fits found is keeper-is left same keeps =
+    → LanesAskForMarks after.pass.part.lanes → SessionFits disk (with-stripe old k after.stripe after.keeper after.pass)
+fits-written disk drawn issued old k stripe admitted keeper after fits found is keeper-is left same keeps asked =
     let new = with-stripe old k after.stripe after.keeper after.pass in
     let plan = plan-stays old k after in
     let keeps-keeper = keeper-written disk old admitted keeper after keeper-is same in
     session-fits disk drawn issued old new fits plan (count-left old new k after.stripe refl)
     (stripes-left disk old new k stripe after.stripe fits plan found refl (stripe-then disk stripe admitted after.stripe (admitted-stripe disk stripe admitted is) same.stripe) left.stripe left.rest)
-    left.keeper keeps-keeper (ap₂ blocks_of keeps-keeper.sectors keeps-keeper.block_sectors) keeps
+    left.keeper keeps-keeper (ap₂ blocks_of keeps-keeper.sectors keeps-keeper.block_sectors) keeps asked
 
 -- it stands
 pub stands-written : {D : Type 0} (disk : Ghosts D) (opening : Opening) (old : Session D) (k : ℕ) (stripe admitted : Stripe D) (keeper : Keeper D) (after : Desk D) → SessionStands disk opening old → slice_get old.stripes.items k ≡ Some stripe

@@ -11,6 +11,7 @@ use Rattle.era_model.specs.declared.event.Event.TheVariants.{Settle}
 use Rattle.era_notes.specs.Parts.{IsPlace}
 use Rattle.era_notes.specs.Rooms.{HoldBytes, free_in}
 use Rattle.era_notes.specs.declared.buffers.Buffers.{Buffers}
+use Rattle.era_session.specs.Chunks.{ChunkDrew}
 use Rattle.era_session.specs.Desks.{Desk, desk}
 use Rattle.era_session.specs.Marking.{IsInsideFor, MayMark}
 use Rattle.era_session.specs.Receipts.{PassDrew}
@@ -70,7 +71,7 @@ pub record IsReady {D : Type 0} (disk : Ghosts D) (gate : GateToken) (cut : Opti
   pub hold : MayHold new.stripe block first count
   pub before : List Event
   pub settling : IsSettling cut id before
-  pub drew : PassDrew before no_write old.pass new.pass
+  pub drew : ChunkDrew before no_write old.pass new.pass old.stripe.entries new.stripe.entries
 
 -- what a settling that succeeded left
 ready-by : {D : Type 0} (disk : Ghosts D) (gate : GateToken) (cut : Option CutWrite) (id : CmdId) (block first count : ℕ) (old : Desk D) (stripe : Stripe D) (pass : PassToken) (before : List Event)

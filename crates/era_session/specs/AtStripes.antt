@@ -1,13 +1,13 @@
 -- A command at one stripe of a session: what it found there, and what it left.
-use Rattle.std.specs.Prelude.{◌≡◌, ℕ, ◌*◌, ◌/◌, List, length, slice_get, slice_set, Option, Some, None}
+use Rattle.std.specs.Prelude.{◌≡◌, ℕ, ◌/◌, List, [], slice_get, slice_set, Option, Some, None}
 use Rattle.era_base.specs.Geometry.{place_at}
 use Rattle.era_base.specs.declared.disk.Disk.{Ghosts}
 use Rattle.era_base.specs.declared.ids.CmdId.{CmdId}
-use Rattle.era_gate.specs.Calls.{PassToken}
 use Rattle.era_keeper.specs.Keepers.{view_of as keeper_view}
 use Rattle.era_keeper.specs.declared.keeper.Keeper.{Keeper}
 use Rattle.era_model.specs.declared.reply.Answer.{Answer}
 use Rattle.era_model.specs.declared.reply.Answer.TheVariants.{Range}
+use Rattle.era_notes.specs.Rooms.{last_in}
 use Rattle.era_session.specs.Desks.{AnswersCounts, Desk, SameDesk}
 use Rattle.era_session.specs.Sessions.{SamePlan}
 use Rattle.era_session.specs.Writes.{WriteDrew, WriteWent}
@@ -15,13 +15,14 @@ use Rattle.era_session.specs.declared.session.Session.{Session}
 use Rattle.era_stripe.specs.Stripes.{view_of as stripe_view}
 use Rattle.era_stripe.specs.declared.stripe.Stripe.{Stripe}
 
--- A stripe was given the room of a command: what it says of its part, its device, its seat, its cut write and its notes are as before.
+-- A stripe was given the room of a command: what it says of its part, its device, its seat, its cut write and its notes are as before, and it has no entries of the command yet.
 pub record IsAdmitted {D : Type 0} (disk : Ghosts D) (old new : Stripe D) : Type 0 where
   pub view : stripe_view disk new ≡ stripe_view disk old
   pub device : new.disk ≡ old.disk
   pub seat : new.seat ≡ old.seat
   pub cut : new.cut ≡ old.cut
   pub notes : new.notes ≡ old.notes
+  pub last : last_in new.entries ≡ []
 
 -- The keeper was given the room of a command: it is the same but for that.
 pub record IsKeeperAdmitted {D : Type 0} (disk : Ghosts D) (old new : Keeper D) : Type 0 where

@@ -1,10 +1,11 @@
 -- What a checkpoint came to.
-use Rattle.std.specs.Prelude.{◌≡◌, ◌⊎◌, ℕ, zero, suc, ◌+◌, ◌<◌, ◌≤◌, true, List, [], ◌∷◌, ◌++◌, length, slice_get, slice_set, Option, Some, None, Result, Ok, Err, vec_len}
+use Rattle.std.specs.Prelude.{◌≡◌, ◌⊎◌, ℕ, zero, suc, ◌+◌, ◌≤◌, true, List, [], ◌∷◌, ◌++◌, length, slice_get, slice_set, take, Option, Some, None, Result, Ok, Err}
 use Rattle.era_base.specs.Faults.{HasCount}
 use Rattle.era_base.specs.declared.disk.Disk.{Ghosts}
 use Rattle.era_base.specs.declared.ids.CmdId.{CmdId}
 use Rattle.era_gate.specs.Calls.{GateToken, PassToken, has_lane}
 use Rattle.era_gate.specs.Passes.{no_write}
+use Rattle.era_gate.specs.Receipts.{entries_in}
 use Rattle.era_keeper.specs.Results.{CheckpointDid}
 use Rattle.era_model.specs.declared.event.Event.{Event}
 use Rattle.era_model.specs.declared.event.Event.TheVariants.{Kept, Refused, Roll, Settle, Unsettled}
@@ -12,7 +13,9 @@ use Rattle.era_model.specs.declared.event.Kind.TheVariants.{Checkpoint as Checkp
 use Rattle.era_model.specs.declared.event.Why.TheVariants.{End as EndWhy, MetaFault}
 use Rattle.era_model.specs.declared.reply.Answer.{Answer}
 use Rattle.era_model.specs.declared.reply.Answer.TheVariants.{End, EraIs, Fault, Kept as KeptAnswer}
+use Rattle.era_notes.specs.Rooms.{last_in}
 use Rattle.era_session.specs.AtStripes.{IsAdmitted}
+use Rattle.era_session.specs.Chunks.{stripes_trail}
 use Rattle.era_session.specs.Receipts.{PassDrew}
 use Rattle.era_session.specs.Requests.{KeeperCalled}
 use Rattle.era_session.specs.Sessions.{SamePlan}
@@ -38,7 +41,7 @@ pub record MaySettleAt {D : Type 0} (disk : Ghosts D) (gate : GateToken) (stripe
   pub lane : has_lane by.lane pass.part.lanes ≡ true
   pub budget : 1 ≤ pass.part.budget
 
--- A checkpoint at a stripe: it was given its room, its cut write was resolved, or passed over where it couldn't be.
+-- A checkpoint at a stripe: it was given its room, its cut write was resolved, or passed over where it couldn't be. The pass has the receipts of the entries in the stripe's last chunk.
 pub record StripeSettled {D : Type 0} (disk : Ghosts D) (by : CmdId) (events : List Event) (old new : Stripe D) (pass pass' : PassToken) : Type 0 where
   pub before : Stripe D
   pub settled : Stripe D
@@ -50,6 +53,7 @@ pub record StripeSettled {D : Type 0} (disk : Ghosts D) (by : CmdId) (events : L
   pub events_are : events ≡ settling_events old.cut by bytes result
   pub left : (new.disk ≡ settled.disk) × (new.cut ≡ settled.cut)
   pub drew : PassDrew events no_write pass pass'
+  pub trail : entries_in drew.receipts ≡ last_in new.entries
   pub cause : HasCount (disk.faults old.disk) (disk.faults new.disk) result
 
 -- A checkpoint did this at one stripe of a session; all else stays.
@@ -70,11 +74,12 @@ SettledBelow {D} disk by (suc k) events old new =
     (between : Session D) × (before own : List Event)
     × SettledBelow disk by k before old between × SettledAt disk by k own between new × (events ≡ before ++ own)
 
--- A checkpoint resolved or passed over the cut writes of the stripes below a number, and the pass has the receipts.
+-- A checkpoint resolved or passed over the cut writes of the stripes below a number, and the pass has the receipts of the entries that they have of it.
 pub record Settlings {D : Type 0} (disk : Ghosts D) (by : CmdId) (k : ℕ) (old new : Session D) : Type 0 where
   pub events : List Event
   pub below : SettledBelow disk by k events old new
   pub drew : PassDrew events no_write old.pass new.pass
+  pub trail : entries_in drew.receipts ≡ stripes_trail (take k new.stripes.items)
   pub few : length events ≤ k
 
 -- The events of a checkpoint at the keeper in an era, by its answer. Of a fault of the metadata disk, either this era couldn't be stored, or the next one, to which the session has moved.
@@ -95,3 +100,4 @@ pub record CheckpointWent {D : Type 0} (disk : Ghosts D) (id : CmdId) (answer : 
   pub end : List Event
   pub ends : AreCheckpointsEnd id settled.keeper.meta.marks.era answer end
   pub drew : PassDrew (settling.events ++ end) no_write old.pass new.pass
+  pub trail : entries_in drew.receipts ≡ stripes_trail new.stripes.items ++ last_in new.keeper.entries

@@ -1,6 +1,7 @@
 -- What a command works with, and the receipts of what it drew.
 pub mod Desks
 pub mod Receipts
+pub mod Chunks
 -- What stands of a session before and after each call.
 pub mod Sessions
 -- What each call came to.
@@ -12,6 +13,8 @@ pub mod Requests
 pub mod Checkpoints
 -- What a command comes to, whatever it asks.
 pub mod Serving
+-- Which entries are those of the command that was served last.
+pub mod Trails
 -- What a session leaves at its end.
 pub mod Ends
 -- What a session begins with.

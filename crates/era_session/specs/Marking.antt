@@ -9,8 +9,8 @@ use Rattle.era_keeper.specs.Keepers.{KeeperFits}
 use Rattle.era_model.specs.declared.event.Event.{Event}
 use Rattle.era_model.specs.Marks.{blocks_of_marks}
 use Rattle.era_notes.specs.Rooms.{free_in}
+use Rattle.era_session.specs.Chunks.{ChunkDrew}
 use Rattle.era_session.specs.Desks.{Desk, DeskFits}
-use Rattle.era_session.specs.Receipts.{PassDrew}
 use Rattle.era_session.specs.Writes.{IsFailedMarking, marking_events}
 use Rattle.era_stripe.specs.Stripes.{StripeFits}
 
@@ -39,15 +39,16 @@ abbrev pub AfterMarking : {D : Type 0} → Ghosts D → GateToken → ℕ → Re
 AfterMarking disk gate block (Ok value) desk = IsInsideFor disk gate block desk
 AfterMarking disk gate block (Err count) desk = DeskFits disk gate desk
 
--- The keeper drew that a block without a mark of the present era got none, and the pass has the receipts.
+-- The keeper drew that a block without a mark of the present era got none, and the pass has the receipts of these entries.
 pub record FailedMarkingDrew {D : Type 0} (id : CmdId) (block count : ℕ) (old new : Desk D) : Type 0 where
   pub unmarked : has old.keeper.meta.marks.current block ≡ false
   pub events : List Event
   pub failed : IsFailedMarking id block old.keeper.meta.marks.era count events
-  pub drew : PassDrew events no_write old.pass new.pass
+  pub drew : ChunkDrew events no_write old.pass new.pass old.keeper.entries new.keeper.entries
 
--- What the keeper drew of a marking, by its result, and the pass has the receipts.
+-- What the keeper drew of a marking, by its result, and the pass has the receipts of these entries.
 abbrev pub MarkingDrew : {D : Type 0} → CmdId → ℕ → Result Unit ℕ → Desk D → Desk D → Type 0
 MarkingDrew id block (Ok value) old new =
-    PassDrew (marking_events (has old.keeper.meta.marks.current block) id block old.keeper.meta.marks.era) no_write old.pass new.pass
+    ChunkDrew (marking_events (has old.keeper.meta.marks.current block) id block old.keeper.meta.marks.era) no_write old.pass new.pass old.keeper.entries
+    new.keeper.entries
 MarkingDrew id block (Err count) old new = FailedMarkingDrew id block count old new

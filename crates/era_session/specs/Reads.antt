@@ -5,6 +5,7 @@ use Rattle.era_base.specs.declared.disk.Disk.{Ghosts}
 use Rattle.era_base.specs.declared.ids.CmdId.{CmdId}
 use Rattle.era_gate.specs.Calls.{GateToken, PassToken, has_lane}
 use Rattle.era_gate.specs.Passes.{no_write}
+use Rattle.era_gate.specs.Receipts.{entries_in}
 use Rattle.era_keeper.specs.declared.keeper.Keeper.{Keeper}
 use Rattle.era_model.specs.declared.event.Event.{Event}
 use Rattle.era_model.specs.declared.event.Event.TheVariants.{Read, Refused}
@@ -14,6 +15,7 @@ use Rattle.era_model.specs.declared.reply.Answer.{Answer}
 use Rattle.era_model.specs.declared.reply.Answer.TheVariants.{Fault, Found, Range}
 use Rattle.era_model.specs.declared.reply.Device.TheVariants.{Data as DataDevice}
 use Rattle.era_notes.specs.Parts.{IsIn, IsPlace}
+use Rattle.era_notes.specs.Rooms.{last_in}
 use Rattle.era_session.specs.AtStripes.{DidAt, IsAdmitted}
 use Rattle.era_session.specs.Desks.{AnswersCounts, Desk, SameDesk, desk}
 use Rattle.era_session.specs.Receipts.{PassDrew}
@@ -55,12 +57,13 @@ ReadCalled disk first (Fault device count) old new =
     (bytes : List ℕ) × Reads {T = Unit} {E = ℕ} first bytes (Err count) (disk.history old.stripe.disk) (disk.history new.stripe.disk)
 ReadCalled disk first answer old new = ⊥
 
--- What a read did at its stripe: the keeper stays, the pass has the receipt of its event, and the count tells a fault.
+-- What a read did at its stripe: the keeper stays, the pass has the receipt of its event, whose entry is that of the stripe's last chunk, and the count tells a fault.
 pub record ReadAt {D : Type 0} (disk : Ghosts D) (id : CmdId) (sector count : ℕ) (answer : Answer) (old new : Desk D) : Type 0 where
   pub answers : IsReadAnswer count answer
   pub called : disk.tells ≡ true
       → ReadCalled disk (sector - old.stripe.first_block * old.stripe.geometry.block_sectors) answer old new
   pub drew : PassDrew (read_events id sector old.stripe.index answer) no_write old.pass new.pass
+  pub trail : entries_in drew.receipts ≡ last_in new.stripe.entries
   pub keeper : new.keeper ≡ old.keeper
   pub same : SameDesk disk old new
   pub cause : AnswersCounts disk answer old new

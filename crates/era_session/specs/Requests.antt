@@ -1,8 +1,10 @@
 -- What a request to the metadata came to.
-use Rattle.std.specs.Prelude.{◌≡◌, ℕ, Bool, List, Option, Some, None, option_to_list}
+use Rattle.std.specs.Prelude.{◌≡◌, List, [], Option, Some, None, option_to_list}
 use Rattle.era_base.specs.declared.disk.Disk.{Ghosts}
 use Rattle.era_base.specs.declared.ids.CmdId.{CmdId}
 use Rattle.era_gate.specs.Calls.{PassToken}
+use Rattle.era_gate.specs.Passes.{no_write}
+use Rattle.era_gate.specs.Receipts.{entries_in}
 use Rattle.era_keeper.specs.Answers.{ListDid, StatusDid}
 use Rattle.era_keeper.specs.Results.{AnswersCount, DigestDid}
 use Rattle.era_keeper.specs.SnapshotResults.{SnapDid, UnsnapDid}
@@ -16,7 +18,9 @@ use Rattle.era_model.specs.declared.event.Kind.TheVariants.{TakeSnap as TakeSnap
 use Rattle.era_model.specs.declared.event.Why.TheVariants.{Held as HeldWhy, Idle as IdleWhy, Memory as MemoryWhy, MetaFault, NoSnap as NoSnapWhy}
 use Rattle.era_model.specs.declared.reply.Answer.{Answer}
 use Rattle.era_model.specs.declared.reply.Answer.TheVariants.{Blocks, Digest as DigestAnswer, Fault, Fine, Held, Idle, Memory, NoSnap, Snap as SnapAnswer, Status as StatusAnswer}
+use Rattle.era_notes.specs.Rooms.{last_in}
 use Rattle.era_session.specs.AtStripes.{IsKeeperAdmitted}
+use Rattle.era_session.specs.Receipts.{PassDrew}
 use Rattle.era_session.specs.Sessions.{SamePlan}
 use Rattle.era_session.specs.declared.session.Session.{Session}
 
@@ -52,12 +56,18 @@ RequestWent disk id DigestRequest answer old new pass pass' = DigestDid disk id 
 RequestWent disk id StatusRequest answer old new pass pass' = StatusDid disk id answer old new pass pass'
 RequestWent disk id (ListRequest since snap) answer old new pass pass' = ListDid disk id since snap answer old new pass pass'
 
--- A call of the keeper alone: it was given its room, all stripes stay, and what it did is this.
+-- A call of the keeper alone: it was given its room, without entries of the command yet, all stripes stay, and what it did is this.
 pub record KeeperCalled {D : Type 0} (disk : Ghosts D) (Did : Keeper D → Keeper D → PassToken → PassToken → Type 0) (answer : Answer) (old new : Session D) : Type 0 where
   pub before : Keeper D
   pub admitted : IsKeeperAdmitted disk old.keeper before
+  pub undrawn : last_in before.entries ≡ []
   pub did : Did before new.keeper old.pass new.pass
   pub stripes : new.stripes ≡ old.stripes
   pub plan : SamePlan old new
   pub same : SameKeeper disk old.keeper new.keeper
   pub cause : AnswersCount (disk.faults old.keeper.meta.slots.disk) (disk.faults new.keeper.meta.slots.disk) answer
+
+-- The pass was given the receipts of a request's events, and of no others: their entries are those of the keeper's last chunk.
+pub record RequestDrew {D : Type 0} (events : List Event) (old new : Session D) : Type 0 where
+  pub drew : PassDrew events no_write old.pass new.pass
+  pub trail : entries_in drew.receipts ≡ last_in new.keeper.entries

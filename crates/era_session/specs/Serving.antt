@@ -2,7 +2,6 @@
 use Rattle.std.specs.Prelude.{◌≡◌, ℕ, ◌*◌, ◌/◌, ◌≤◌, length, vec_len}
 use Rattle.era_base.specs.declared.disk.Disk.{Ghosts}
 use Rattle.era_base.specs.declared.ids.CmdId.{CmdId}
-use Rattle.era_gate.specs.Passes.{no_write}
 use Rattle.era_model.specs.declared.command.Request.{Request}
 use Rattle.era_model.specs.declared.command.Request.TheVariants.{Checkpoint}
 use Rattle.era_model.specs.declared.command.Task.{Task}
@@ -11,8 +10,7 @@ use Rattle.era_model.specs.declared.reply.Answer.{Answer}
 use Rattle.era_session.specs.AtStripes.{WriteDid, session_place}
 use Rattle.era_session.specs.Checkpoints.{CheckpointWent}
 use Rattle.era_session.specs.Reads.{ReadDid}
-use Rattle.era_session.specs.Receipts.{PassDrew}
-use Rattle.era_session.specs.Requests.{KeeperCalled, RequestWent, request_events}
+use Rattle.era_session.specs.Requests.{KeeperCalled, RequestDrew, RequestWent, request_events}
 use Rattle.era_session.specs.declared.rooms.CommandRoom.{CommandRoom}
 use Rattle.era_session.specs.declared.rooms.CommandRoom.TheVariants as room
 use Rattle.era_session.specs.declared.session.Session.{Session}
@@ -35,7 +33,7 @@ IsRoomFor stripes task other = ⊥
 abbrev pub RequestDid : {D : Type 0} → Ghosts D → CmdId → Request → Answer → Session D → Session D → Type 0
 RequestDid disk id Checkpoint answer old new = CheckpointWent disk id answer old new
 RequestDid disk id request answer old new =
-    KeeperCalled disk (RequestWent disk id request answer) answer old new × PassDrew (request_events id request answer) no_write old.pass new.pass
+    KeeperCalled disk (RequestWent disk id request answer) answer old new × RequestDrew (request_events id request answer) old new
 
 -- What a command of this name did by its task, with its answer.
 abbrev pub TaskDid : {D : Type 0} → Ghosts D → CmdId → Task → Answer → Session D → Session D → Type 0

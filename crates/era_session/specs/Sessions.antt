@@ -6,6 +6,7 @@ use Rattle.era_base.specs.declared.ids.CmdId.{CmdId}
 use Rattle.era_base.specs.declared.geometry.Geometry.{Geometry}
 use Rattle.era_gate.specs.Calls.{PassToken, has_lane}
 use Rattle.era_gate.specs.Passes.{KeepsPass}
+use Rattle.era_gate.specs.Requests.{LanesAskForMarks}
 use Rattle.era_keeper.specs.Calls.{SameKeeper}
 use Rattle.era_keeper.specs.Keepers.{KeeperFits, KeeperStands}
 use Rattle.era_model.specs.Legal.{IsOpening}
@@ -45,12 +46,13 @@ pub record HasRoomToEnd {D : Type 0} (session : Session D) : Type 0 where
   pub seats : length session.stripes.items ≤ vec_capacity session.seats
   pub parts : length session.stripes.items ≤ vec_capacity session.parts
 
--- A session fits together between commands.
+-- A session fits together between commands. Among the receipts of each lane each mark stands directly behind the request for it.
 pub record SessionFits {D : Type 0} (disk : Ghosts D) (session : Session D) : Type 0 where
   pub stripes : (k : ℕ) (stripe : Stripe D) → slice_get session.stripes.items k ≡ Some stripe → IsStripeOf disk session k stripe
   pub keeper : KeeperFits disk session.keeper
   pub tables : (session.keeper.seat.table ≡ session.gate.table) × (session.pass.table ≡ session.gate.table)
   pub lanes : (l : ℕ) → l < 65 → has_lane l session.pass.part.lanes ≡ true
+  pub asked : LanesAskForMarks session.pass.part.lanes
   pub blocks : session.gate.plan.blocks ≡ session_blocks session
   pub marks : blocks_of_marks session.keeper.meta.marks ≡ session_blocks session
   pub shared : AreSharedOut session

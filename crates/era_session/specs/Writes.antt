@@ -6,17 +6,19 @@ use Rattle.era_base.specs.declared.disk.Disk.{Ghosts}
 use Rattle.era_base.specs.declared.ids.CmdId.{CmdId}
 use Rattle.era_gate.specs.Calls.{GateToken, PassToken, has_gone, has_lane}
 use Rattle.era_gate.specs.Passes.{no_write}
+use Rattle.era_gate.specs.Receipts.{entries_in}
 use Rattle.era_keeper.specs.Results.{MarkDid}
 use Rattle.era_model.specs.declared.event.Event.{Event}
-use Rattle.era_model.specs.declared.event.Event.TheVariants.{Tried, Mark, Go, Done, Cut, Settle, Refused}
+use Rattle.era_model.specs.declared.event.Event.TheVariants.{Tried, Mark, Settle, Refused}
 use Rattle.era_model.specs.declared.event.Kind.TheVariants.{Write as WriteKind}
 use Rattle.era_model.specs.declared.event.Why.TheVariants.{DataFault, MetaFault}
 use Rattle.era_model.specs.declared.reply.Answer.{Answer}
 use Rattle.era_model.specs.declared.reply.Answer.TheVariants.{Fault, Fine}
 use Rattle.era_model.specs.declared.reply.Device.TheVariants.{Data as DataDevice, Meta as MetaDevice}
 use Rattle.era_notes.specs.Parts.{sector_in}
-use Rattle.era_notes.specs.Rooms.{free_in}
+use Rattle.era_notes.specs.Rooms.{free_in, last_in}
 use Rattle.era_notes.specs.declared.room.TheConstants.{ROOM_ENTRIES}
+use Rattle.era_session.specs.Chunks.{write_trail}
 use Rattle.era_session.specs.Desks.{Desk, DeskFits}
 use Rattle.era_session.specs.Receipts.{PassDrew}
 use Rattle.era_stripe.specs.Calls.{Drew, MayHold, SameButStay}
@@ -24,13 +26,14 @@ use Rattle.era_stripe.specs.Results.{SettleDid, only, write_events}
 use Rattle.era_stripe.specs.Stripes.{part_of}
 use Rattle.era_stripe.specs.declared.cut_write.CutWrite.{CutWrite}
 
--- A write may be made: stripe, keeper and pass fit together; the pass has the command's lane, draws enough, and no receipt of a write of this command; stripe and keeper have room for its entries, and the stripe for its bytes, which are whole sectors of a block of its own.
+-- A write may be made: stripe, keeper and pass fit together; the pass has the command's lane, draws enough, and no receipt of a write of this command; stripe and keeper have room for its entries and none of them yet, and the stripe for its bytes, which are whole sectors of a block of its own.
 pub record MayWrite {D : Type 0} (disk : Ghosts D) (gate : GateToken) (desk : Desk D) (id : CmdId) (block first count : ℕ) : Type 0 where
   pub fits : DeskFits disk gate desk
   pub lane : has_lane id.lane desk.pass.part.lanes ≡ true
   pub budget : 24 ≤ desk.pass.part.budget
   pub once : has_gone id desk.pass.part.lanes ≡ false
   pub rooms : (ROOM_ENTRIES ≤ free_in desk.stripe.entries) × (ROOM_ENTRIES ≤ free_in desk.keeper.entries)
+  pub undrawn : (last_in desk.stripe.entries ≡ []) × (last_in desk.keeper.entries ≡ [])
   pub of_origin : block < gate.plan.blocks
   pub hold : MayHold desk.stripe block first count
 
@@ -81,11 +84,12 @@ AreWriteEvents id block first bytes (Fault DataDevice count) old events =
 AreWriteEvents id block first bytes (Fault MetaDevice count) old events = UnmarkedEvents id block count old events
 AreWriteEvents id block first bytes answer old events = ⊥
 
--- A write drew its events, and the pass has their receipts.
+-- A write drew its events, and the pass has their receipts: of the entries that stripe and keeper have of it, in their order.
 pub record WriteDrew {D : Type 0} (id : CmdId) (block first : ℕ) (bytes : List ℕ) (answer : Answer) (old new : Desk D) : Type 0 where
   pub events : List Event
   pub are : AreWriteEvents id block first bytes answer old events
   pub drew : PassDrew events (only id) old.pass new.pass
+  pub trail : entries_in drew.receipts ≡ write_trail (last_in new.stripe.entries) (last_in new.keeper.entries)
 
 -- The stripe has resolved an earlier write, if one was cut: the one step of a command before it enters the gate.
 pub record HasSettled {D : Type 0} (disk : Ghosts D) (id : CmdId) (result : Result Unit ℕ) (old new : Desk D) : Type 0 where

@@ -7,7 +7,7 @@ ghost use Rattle.era_keeper.specs.Keepers.{KeeperFits, KeeperStands};
 ghost use Rattle.era_keeper.specs.Results.{AnswersCount};
 ghost use Rattle.era_model.specs.declared.command.Request.TheVariants.{Checkpoint};
 ghost use Rattle.era_model.specs.declared.opening.Opening.{Opening};
-ghost use Rattle.era_session.specs.Receipts.{PassDrew};
+ghost use Rattle.era_session.specs.Chunks.{ChunkDrew};
 ghost use Rattle.era_session.specs.Requests.{RequestWent, request_events};
 
 use crate::session::Session;
@@ -33,7 +33,8 @@ fn ask_keeper<D: Disk>(
     ensures stands { (opening : Opening) → KeeperStands D.Disk opening keeper.old
         → KeeperStands D.Disk opening keeper.new }
     ensures went { RequestWent D.Disk id request result keeper.old keeper.new pass.old pass.new }
-    ensures drew { PassDrew (request_events id request result) no_write pass.old pass.new }
+    ensures drew { ChunkDrew (request_events id request result) no_write pass.old pass.new
+        keeper.old.entries keeper.new.entries }
     ensures same { SameKeeper D.Disk keeper.old keeper.new }
     ensures cause { AnswersCount (D.faults keeper.old.meta.slots.disk)
         (D.faults keeper.new.meta.slots.disk) result }
@@ -49,7 +50,7 @@ fn ask_keeper<D: Disk>(
 }
 
 impl<D: Disk> Session<D> {
-    ghost use Rattle.era_session.specs.Requests.{KeeperCalled};
+    ghost use Rattle.era_session.specs.Requests.{KeeperCalled, RequestDrew};
     ghost use Rattle.era_session.specs.Sessions.{MayCommand, SameSession, SessionFits, SessionStands};
 
     /// Serves a request to the metadata other than a checkpoint. `room` is that of the request at the keeper. Each answer has
@@ -62,8 +63,7 @@ impl<D: Disk> Session<D> {
             → SessionStands D.Disk opening self.new }
         ensures did { KeeperCalled D.Disk (RequestWent D.Disk id request result) result
             self.old self.new }
-        ensures drew { PassDrew (request_events id request result) no_write
-            self.old.pass self.new.pass }
+        ensures drew { RequestDrew (request_events id request result) self.old self.new }
         ensures same { SameSession D.Disk self.old self.new }
     {
         self.keeper.admit(room);

@@ -1,14 +1,11 @@
-use Rattle.std.proofs.Common.{◌≡◌, ℕ, List, [], ◌∷◌, ◌++◌, Option, Ok, Err, refl, sym, ap, ◌∙◌, subst}
-use Rattle.era_gate.specs.Calls.{PassToken}
+use Rattle.std.proofs.Common.{List, [], ◌++◌, Option, Ok, Err, refl, sym, ap, ◌∙◌, subst}
 use Rattle.era_gate.specs.Passes.{no_write}
-use Rattle.era_model.specs.declared.event.Event.{Event}
+use Rattle.era_model.specs.declared.entry.Entry.{Entry}
 use Rattle.era_stripe.specs.Results.{SettleDid}
-use Rattle.era_stripe.specs.Stripes.{StripeView, ViewStands, view_of}
+use Rattle.era_stripe.specs.Stripes.{ViewStands}
 use Rattle.era_stripe.specs.declared.cut_write.CutWrite.{CutWrite}
-use Rattle.era_session.specs.AtStripes.{IsAdmitted}
 use Rattle.era_session.specs.Checkpoints.{settling_events}
-use Rattle.era_session.specs.Receipts.{PassDrew}
-use Rattle.era_session.proofs.Receipts.{drew-both, stripe-drew}
+use Rattle.era_session.proofs.Receipts.{last-first, stripe-trail, trail-both}
 use Rattle.era_session.proofs.Settled.{cause-over, err-left, ok-drew, passed-drew}
 use Rattle.era_session.proofs.checkpoints.settle_stripe.Goals as goal
 
@@ -29,7 +26,10 @@ returns-in-Err-clause-did g c =
     let cut = c.admit.ensures.same.2 in
     let did = subst (λ (found : Option CutWrite). SettleDid g.D.Disk found c.args.by (Err count) before settled pass c.settle.new.pass) cut c.in-Err.ensures.did in
     let left = err-left g.D.Disk old.cut c.args.by count before settled pass c.settle.new.pass did in
-    let passed = passed-drew g.D.Disk old.cut c.args.by count before settled c.pass_over.new.self pass c.settle.new.pass c.pass_over.new.pass did c.pass_over.ensures.drew in (
+    let passed = passed-drew g.D.Disk old.cut c.args.by count before settled c.pass_over.new.self pass c.settle.new.pass c.pass_over.new.pass did c.pass_over.ensures.drew in
+    let all = trail-both [] (settling_events old.cut c.args.by [] (Err count)) left.drew.kept.entries passed.kept.entries no_write no_write no_write pass c.settle.new.pass c.pass_over.new.pass (λ id none. (none, none))
+    (stripe-trail [] no_write before settled pass c.settle.new.pass left.drew)
+    (stripe-trail (settling_events old.cut c.args.by [] (Err count)) no_write settled c.pass_over.new.self c.settle.new.pass c.pass_over.new.pass passed) in (
       settling_events old.cut c.args.by [] (Err count),
       record {
         before = before;
@@ -43,13 +43,13 @@ returns-in-Err-clause-did g c =
           seat = c.admit.ensures.same.1;
           cut = cut;
           notes = c.admit.ensures.same.4;
+          last = c.admit.ensures.last;
         };
         settling = did;
         events_are = refl;
         left = (c.pass_over.ensures.same.disk, c.pass_over.ensures.same.cut);
-        drew = drew-both [] (settling_events old.cut c.args.by [] (Err count)) no_write no_write no_write pass c.settle.new.pass c.pass_over.new.pass (λ id none. (none, none))
-            (stripe-drew [] no_write before settled pass c.settle.new.pass left.drew)
-            (stripe-drew (settling_events old.cut c.args.by [] (Err count)) no_write settled c.pass_over.new.self c.settle.new.pass c.pass_over.new.pass passed);
+        drew = all.drew;
+        trail = all.are ∙ sym (passed.kept.last ∙ ap (λ (es : List Entry). es ++ passed.kept.entries) (last-first before.entries settled.entries left.drew.kept.entries c.admit.ensures.last left.drew.kept.last));
         cause = cause-over g.D.Disk old before settled c.pass_over.new.self (Err count) c.admit.ensures.same.0 c.pass_over.ensures.same.disk c.in-Err.ensures.cause;
       },
     )
@@ -62,7 +62,8 @@ returns-in_default-clause-did g c =
     let pass = c.args.pass.now in
     let cut = c.admit.ensures.same.2 in
     let did = subst (λ (found : Option CutWrite). SettleDid g.D.Disk found c.args.by (Ok tt) before settled pass c.settle.new.pass) cut c.in_default.ensures.did in
-    let drew = ok-drew g.D.Disk old.cut c.args.by before settled pass c.settle.new.pass did in (
+    let drew = ok-drew g.D.Disk old.cut c.args.by before settled pass c.settle.new.pass did in
+    let all = stripe-trail (settling_events old.cut c.args.by drew.bytes (Ok tt)) no_write before settled pass c.settle.new.pass drew.drew in (
       settling_events old.cut c.args.by drew.bytes (Ok tt),
       record {
         before = before;
@@ -76,11 +77,13 @@ returns-in_default-clause-did g c =
           seat = c.admit.ensures.same.1;
           cut = cut;
           notes = c.admit.ensures.same.4;
+          last = c.admit.ensures.last;
         };
         settling = did;
         events_are = refl;
         left = (refl, refl);
-        drew = stripe-drew (settling_events old.cut c.args.by drew.bytes (Ok tt)) no_write before settled pass c.settle.new.pass drew.drew;
+        drew = all.drew;
+        trail = all.are ∙ sym (last-first before.entries settled.entries drew.drew.kept.entries c.admit.ensures.last drew.drew.kept.last);
         cause = cause-over g.D.Disk old before settled settled (Ok tt) c.admit.ensures.same.0 refl c.in_default.ensures.cause;
       },
     )

@@ -18,9 +18,10 @@ returns-in-Ok-clause-did g c =
         seat = c.admit.ensures.same.1;
         cut = c.admit.ensures.same.2;
         notes = c.admit.ensures.same.4;
+        last = c.admit.ensures.last;
       };
       read = λ keeper.
-          read-found g.D.Disk c.args.id c.args.sector c.args.count c.read.new.into c.admit.new.self c.read.new.self c.args.pass.now c.read.new.pass keeper (size ∙ whole)
+          read-found g.D.Disk c.args.id c.args.sector c.args.count c.read.new.into c.admit.new.self c.read.new.self c.args.pass.now c.read.new.pass keeper (size ∙ whole) c.admit.ensures.last
           c.in-Ok.ensures.drew c.in-Ok.ensures.told c.in-Ok.ensures.same c.in-Ok.ensures.cause;
     })
 
@@ -37,8 +38,9 @@ returns-in-Err-clause-did g c = record {
     seat = c.admit.ensures.same.1;
     cut = c.admit.ensures.same.2;
     notes = c.admit.ensures.same.4;
+    last = c.admit.ensures.last;
   };
   read = λ keeper.
-      read-failed g.D.Disk c.args.id c.args.sector c.args.count c.in-Err.faults c.read.new.into c.admit.new.self c.read.new.self c.args.pass.now c.read.new.pass keeper
+      read-failed g.D.Disk c.args.id c.args.sector c.args.count c.in-Err.faults c.read.new.into c.admit.new.self c.read.new.self c.args.pass.now c.read.new.pass keeper c.admit.ensures.last
       c.in-Err.ensures.drew c.in-Err.ensures.told c.in-Err.ensures.same c.in-Err.ensures.cause;
 }

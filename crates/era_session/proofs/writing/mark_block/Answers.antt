@@ -36,7 +36,7 @@ leave-requires g c =
     let pass = c.args.pass.now in
     let in' = entered g.D.Disk old between pass c.enter.new.pass _ c.enter.result c.enter.ensures.fits c.enter.ensures.seat c.enter.ensures.pass c.enter.ensures.keeps c.enter.ensures.same in
     let failed = failed-drew g.D.Disk (has keeper.meta.marks.current c.args.block) c.args.id c.args.block c.in-Err.count keeper marked c.enter.new.pass c.mark_for.new.pass c.in-Err.ensures.did in
-    record { may = may-leave g.D.Disk c.args.gate.now old between keeper pass c.enter.new.pass c.mark_for.new.pass c.args.id c.args.block failed.events c.requires.may in' failed.drew }
+    record { may = may-leave g.D.Disk c.args.gate.now old between keeper pass c.enter.new.pass c.mark_for.new.pass c.args.id c.args.block failed.events c.requires.may in' failed.drew.drew }
 
 pub returns-in-Ok-clause-after : goal.returns-in-Ok-clause-after
 returns-in-Ok-clause-after g c =
@@ -48,7 +48,7 @@ returns-in-Ok-clause-after g c =
     let in' = entered g.D.Disk old between pass c.enter.new.pass _ c.enter.result c.enter.ensures.fits c.enter.ensures.seat c.enter.ensures.pass c.enter.ensures.keeps c.enter.ensures.same in
     let is = ap (λ (seat : KeeperToken). with-seat marked seat) c.be_shown.ensures.keeper in
     inside-for g.D.Disk c.args.gate.now old between c.be_shown.new.self keeper marked _ pass c.enter.new.pass c.mark_for.new.pass c.args.id c.args.block _ c.requires.may in' c.mark_for.ensures.fits c.mark_for.ensures.same
-    (marked-drew g.D.Disk (has keeper.meta.marks.current c.args.block) c.args.id c.args.block keeper marked c.enter.new.pass c.mark_for.new.pass c.in-Ok.ensures.did)
+    (marked-drew g.D.Disk (has keeper.meta.marks.current c.args.block) c.args.id c.args.block keeper marked c.enter.new.pass c.mark_for.new.pass c.in-Ok.ensures.did).drew
     c.be_shown.ensures.fits c.be_shown.ensures.seat c.be_shown.ensures.same.1 is
 
 pub returns-in-Ok-clause-stands : goal.returns-in-Ok-clause-stands
@@ -77,7 +77,7 @@ returns-in-Ok-clause-drew g c =
     let keeper = c.args.keeper.now in
     let pass = c.args.pass.now in
     let in' = entered g.D.Disk old c.enter.new.self pass c.enter.new.pass _ c.enter.result c.enter.ensures.fits c.enter.ensures.seat c.enter.ensures.pass c.enter.ensures.keeps c.enter.ensures.same in
-    entered-drew _ pass c.enter.new.pass c.mark_for.new.pass in'.drew
+    entered-drew _ keeper.entries c.mark_for.new.self.entries pass c.enter.new.pass c.mark_for.new.pass in'.drew
     (marked-drew g.D.Disk (has keeper.meta.marks.current c.args.block) c.args.id c.args.block keeper c.mark_for.new.self c.enter.new.pass c.mark_for.new.pass c.in-Ok.ensures.did)
 
 pub returns-in-Ok-clause-same : goal.returns-in-Ok-clause-same
@@ -100,7 +100,7 @@ returns-in-Err-clause-after g c =
     let in' = entered g.D.Disk old between pass c.enter.new.pass _ c.enter.result c.enter.ensures.fits c.enter.ensures.seat c.enter.ensures.pass c.enter.ensures.keeps c.enter.ensures.same in
     let failed = failed-drew g.D.Disk (has keeper.meta.marks.current c.args.block) c.args.id c.args.block c.in-Err.count keeper marked c.enter.new.pass c.mark_for.new.pass c.in-Err.ensures.did in
     fits-left g.D.Disk c.args.gate.now old between c.leave.new.self keeper marked pass c.enter.new.pass c.mark_for.new.pass c.leave.new.pass c.args.id c.args.block failed.events c.requires.may in'
-    c.mark_for.ensures.fits c.mark_for.ensures.same failed.drew c.leave.ensures.pass.keeps c.leave.ensures.fits c.leave.ensures.rest (ap (λ (s : StripeToken). s.table) c.leave.ensures.seat)
+    c.mark_for.ensures.fits c.mark_for.ensures.same failed.drew.drew c.leave.ensures.pass.keeps c.leave.ensures.fits c.leave.ensures.rest (ap (λ (s : StripeToken). s.table) c.leave.ensures.seat)
 
 pub returns-in-Err-clause-stands : goal.returns-in-Err-clause-stands
 returns-in-Err-clause-stands g c = λ opening stands. record {
@@ -131,8 +131,8 @@ returns-in-Err-clause-drew g c =
       unmarked = failed.unmarked;
       events = failed.events;
       failed = failed.failed;
-      drew = left-drew failed.events pass c.mark_for.new.pass c.leave.new.pass (entered-drew failed.events pass c.enter.new.pass c.mark_for.new.pass in'.drew failed.drew)
-          c.leave.ensures.pass.lanes c.leave.ensures.pass.keeps;
+      drew = left-drew failed.events keeper.entries c.mark_for.new.self.entries pass c.mark_for.new.pass c.leave.new.pass
+          (entered-drew failed.events keeper.entries c.mark_for.new.self.entries pass c.enter.new.pass c.mark_for.new.pass in'.drew failed.drew) c.leave.ensures.pass.lanes c.leave.ensures.pass.keeps;
     }
 
 pub returns-in-Err-clause-same : goal.returns-in-Err-clause-same

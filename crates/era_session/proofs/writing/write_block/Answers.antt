@@ -56,7 +56,7 @@ returns-in-Err-clause-drew g c =
     let old = desk c.args.stripe.now c.args.keeper.now c.args.pass.now in
     let left = err-left g.D.Disk c.args.stripe.now.cut c.args.id c.in-Err.count c.args.stripe.now c.settle.new.self c.args.pass.now c.settle.new.pass c.in-Err.ensures.did in
     let refused = subst (λ n. Drew (Refused c.args.id WriteKind (DataFault n c.in-Err.count) ∷ []) no_write c.settle.new.self c.refuse.new.self c.settle.new.pass c.refuse.new.pass) c.settle.ensures.same.index c.refuse.ensures.drew in
-    unsettled-drew g.D.Disk c.args.id c.args.block c.args.first c.in-Err.count c.args.bytes.now old c.settle.new.self c.refuse.new.self c.settle.new.pass c.refuse.new.pass c.in-Err.ensures.did left.drew refused
+    unsettled-drew g.D.Disk c.args.id c.args.block c.args.first c.in-Err.count c.args.bytes.now old c.settle.new.self c.refuse.new.self c.settle.new.pass c.refuse.new.pass c.requires.may.undrawn c.in-Err.ensures.did left.drew refused
 
 pub returns-in-Err-clause-same : goal.returns-in-Err-clause-same
 returns-in-Err-clause-same g c =
@@ -98,7 +98,7 @@ returns-in-Err-mark_block-clause-drew g c =
     let settled = desk c.settle.new.self c.args.keeper.now c.settle.new.pass in
     let is = ready g.D.Disk c.args.gate.now c.args.stripe.now.cut c.args.id c.args.block c.args.first (length c.args.bytes.now) old c.settle.new.self c.settle.new.pass c.requires.may c.settle.ensures.fits c.settle.ensures.rest c.settle.ensures.same c.in_default.ensures.did in
     let marked = desk c.mark_block.new.stripe c.mark_block.new.keeper c.mark_block.new.pass in
-    unmarked-drew c.args.id c.args.block c.args.first c.in-Err-mark_block.count c.args.bytes.now old settled marked is.before refl is.settling is.drew c.in-Err-mark_block.ensures.drew
+    unmarked-drew c.args.id c.args.block c.args.first c.in-Err-mark_block.count c.args.bytes.now old settled marked is.before c.requires.may.undrawn refl c.mark_block.ensures.asked.stripe.entries is.settling is.drew c.in-Err-mark_block.ensures.drew
 
 pub returns-in-Err-mark_block-clause-same : goal.returns-in-Err-mark_block-clause-same
 returns-in-Err-mark_block-clause-same g c =
@@ -124,7 +124,7 @@ write_seen-requires g c =
     let era : ℕ = c.args.keeper.now.meta.marks.era in
     record {
       may = may-write-seen g.D.Disk c.args.gate.now settled marked c.args.id c.args.block c.args.first (length c.args.bytes.now) (marking_events flag c.args.id c.args.block era) is.once is.budget is.may.lane is.room is.hold
-          c.in_default-mark_block.ensures.after c.mark_block.ensures.asked.stripe (few-marking flag c.args.id c.args.block era) c.in_default-mark_block.ensures.drew;
+          c.in_default-mark_block.ensures.after c.mark_block.ensures.asked.stripe (few-marking flag c.args.id c.args.block era) c.in_default-mark_block.ensures.drew.drew;
     }
 
 pub returns-in-Ok-clause-fits : goal.returns-in-Ok-clause-fits
@@ -156,8 +156,8 @@ returns-in-Ok-clause-drew g c =
     let settled = desk c.settle.new.self c.args.keeper.now c.settle.new.pass in
     let is = ready g.D.Disk c.args.gate.now c.args.stripe.now.cut c.args.id c.args.block c.args.first (length c.args.bytes.now) old c.settle.new.self c.settle.new.pass c.requires.may c.settle.ensures.fits c.settle.ensures.rest c.settle.ensures.same c.in_default.ensures.did in
     let marked = desk c.mark_block.new.stripe c.mark_block.new.keeper c.mark_block.new.pass in
-    let drew = wrote-drew c.args.id c.args.block c.args.first c.args.bytes.now (Ok tt) old settled marked c.write_seen.new.self c.write_seen.new.pass is.before refl is.settling is.drew c.in_default-mark_block.ensures.drew c.in-Ok.ensures.drew in
-    record { events = drew.0; are = drew.1; drew = drew.2 }
+    let drew = wrote-drew c.args.id c.args.block c.args.first c.args.bytes.now (Ok tt) old settled marked c.write_seen.new.self c.write_seen.new.pass is.before c.requires.may.undrawn refl c.mark_block.ensures.asked.stripe.entries is.settling is.drew c.in_default-mark_block.ensures.drew c.in-Ok.ensures.drew in
+    record { events = drew.events; are = drew.are; drew = drew.drew; trail = drew.trail }
 
 pub returns-in-Ok-clause-same : goal.returns-in-Ok-clause-same
 returns-in-Ok-clause-same g c =
@@ -203,8 +203,8 @@ returns-in-Err-write_seen-clause-drew g c =
     let settled = desk c.settle.new.self c.args.keeper.now c.settle.new.pass in
     let is = ready g.D.Disk c.args.gate.now c.args.stripe.now.cut c.args.id c.args.block c.args.first (length c.args.bytes.now) old c.settle.new.self c.settle.new.pass c.requires.may c.settle.ensures.fits c.settle.ensures.rest c.settle.ensures.same c.in_default.ensures.did in
     let marked = desk c.mark_block.new.stripe c.mark_block.new.keeper c.mark_block.new.pass in
-    let drew = wrote-drew c.args.id c.args.block c.args.first c.args.bytes.now (Err c.in-Err-write_seen.count) old settled marked c.write_seen.new.self c.write_seen.new.pass is.before refl is.settling is.drew c.in_default-mark_block.ensures.drew c.in-Err-write_seen.ensures.drew in
-    record { events = drew.0; are = inr drew.1; drew = drew.2 }
+    let drew = wrote-drew c.args.id c.args.block c.args.first c.args.bytes.now (Err c.in-Err-write_seen.count) old settled marked c.write_seen.new.self c.write_seen.new.pass is.before c.requires.may.undrawn refl c.mark_block.ensures.asked.stripe.entries is.settling is.drew c.in_default-mark_block.ensures.drew c.in-Err-write_seen.ensures.drew in
+    record { events = drew.events; are = inr drew.are; drew = drew.drew; trail = drew.trail }
 
 pub returns-in-Err-write_seen-clause-same : goal.returns-in-Err-write_seen-clause-same
 returns-in-Err-write_seen-clause-same g c =

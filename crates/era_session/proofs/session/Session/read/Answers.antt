@@ -8,6 +8,7 @@ use Rattle.era_session.specs.Sessions.{SamePlan}
 use Rattle.era_session.proofs.AtStripes.{count-left, keeper-same, session-fits, session-itself, session-same, session-stands, stripes-left, stripes-stand, with-stripe}
 use Rattle.era_session.proofs.Places.{sectors-at-stripe, stripe-of-block}
 use Rattle.era_session.proofs.ReadAt.{did-nothing, did-read, keeps-itself}
+use Rattle.era_session.proofs.Requested.{ask-read, drew-asked}
 use Rattle.era_session.proofs.session.Session.read.Goals as goal
 
 pub returns-in_default-clause-did : goal.returns-in_default-clause-did
@@ -61,6 +62,7 @@ returns-clause-fits g c =
     session-fits g.D.Disk _ no_write old new fits plan (count-left old new k after refl)
     (stripes-left g.D.Disk old new k stripe after fits plan found refl c.read_block.ensures.same c.read_block.ensures.fits.0 c.read_block.ensures.fits.1)
     fits.keeper (keeper-same g.D.Disk old.keeper) refl c.read_block.ensures.keeps.keeps
+    (drew-asked _ no_write old.pass c.read_block.new.pass (ask-read c.args.id c.args.sector c.read_block.ensures.did.before.index c.read_block.result) (c.read_block.ensures.did.read old.keeper).drew fits.asked)
 
 pub returns-clause-stands : goal.returns-clause-stands
 returns-clause-stands g c = λ opening stands.

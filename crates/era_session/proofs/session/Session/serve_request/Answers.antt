@@ -5,4 +5,4 @@ pub returns-clause-did : goal.returns-clause-did
 returns-clause-did g c = request-did g.D.Disk c.args.id c.args.request c.ask.result c.args.self.now c.ask.new.self c.requires.other c.ask.ensures.did c.ask.ensures.drew
 
 pub returns-clause-same : goal.returns-clause-same
-returns-clause-same g c = (c.ask.ensures.same, request-draws c.args.id c.args.request c.ask.result c.args.self.now.pass c.ask.new.self.pass c.ask.ensures.drew)
+returns-clause-same g c = (c.ask.ensures.same, request-draws c.args.id c.args.request c.ask.result c.args.self.now.pass c.ask.new.self.pass c.ask.ensures.drew.drew)

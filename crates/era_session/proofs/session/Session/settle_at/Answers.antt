@@ -4,6 +4,7 @@ use Rattle.era_gate.specs.Passes.{no_write}
 use Rattle.era_model.specs.declared.event.Event.{Event}
 use Rattle.era_session.proofs.AtStripes.{count-left, keeper-same, session-fits, session-same, session-stands, stripes-left, stripes-stand, with-stripe}
 use Rattle.era_session.specs.Sessions.{SamePlan}
+use Rattle.era_session.proofs.Requested.{AskForMarks, ask-settled, drew-asked}
 use Rattle.era_session.proofs.session.Session.settle_at.Goals as goal
 
 pub settle_stripe-requires : goal.settle_stripe-requires
@@ -30,10 +31,12 @@ returns-clause-fits g c =
     let new = with-stripe old c.args.index after old.keeper c.settle_stripe.new.pass in
     let plan : SamePlan old new = record { gate = refl; geometry = refl; each = refl; seats = refl; parts = refl } in
     let found = slice_get_read old.stripes.items _ c.args.index c.index_mut-stripe.result.now refl c.requires.stripe c.index_mut-stripe.ensures.value in
-    let drew = c.settle_stripe.ensures.did.1.drew in
+    let did = c.settle_stripe.ensures.did.1 in
+    let drew = did.drew in
     session-fits g.D.Disk _ no_write old new fits plan (count-left old new c.args.index after refl)
     (stripes-left g.D.Disk old new c.args.index c.index_mut-stripe.result.now after fits plan found refl c.settle_stripe.ensures.same c.settle_stripe.ensures.fits.0 c.settle_stripe.ensures.fits.1)
     fits.keeper (keeper-same g.D.Disk old.keeper) refl drew.keeps
+    (drew-asked c.settle_stripe.ensures.did.0 no_write old.pass c.settle_stripe.new.pass (subst AskForMarks (sym did.events_are) (ask-settled c.index_mut-stripe.result.now.cut c.args.by did.bytes did.result)) drew fits.asked)
 
 pub returns-clause-stands : goal.returns-clause-stands
 returns-clause-stands g c = λ opening stands.

@@ -5,6 +5,7 @@ use Rattle.era_session.specs.Desks.{desk}
 use Rattle.era_stripe.specs.Results.{only}
 use Rattle.era_session.proofs.Places.{stripe-of-block}
 use Rattle.era_session.proofs.WriteAt.{did-write, few-events, fits-written, may-write-at, place-of-bytes, same-written, stands-written}
+use Rattle.era_session.proofs.Requested.{ask-write, drew-asked}
 use Rattle.era_session.proofs.session.Session.write.Goals as goal
 
 pub index_mut-stripe-requires : goal.index_mut-stripe-requires
@@ -30,12 +31,12 @@ write_block-requires g c =
     let keeper = c.admit.new.self in
     let share = stripe-of-block old c.in-Some.block fits.shared c.in-Some.ensures.block in
     let found = slice_get_read old.stripes.items _ (c.in-Some.block / old.each) stripe refl share.1 c.index_mut-stripe.ensures.value in
-    let is : IsAdmitted g.D.Disk stripe admitted = record { view = c.admit-2.ensures.view; device = c.admit-2.ensures.same.0; seat = c.admit-2.ensures.same.1; cut = c.admit-2.ensures.same.2; notes = c.admit-2.ensures.same.4 } in
+    let is : IsAdmitted g.D.Disk stripe admitted = record { view = c.admit-2.ensures.view; device = c.admit-2.ensures.same.0; seat = c.admit-2.ensures.same.1; cut = c.admit-2.ensures.same.2; notes = c.admit-2.ensures.same.4; last = c.admit-2.ensures.last } in
     let keeper-is : IsKeeperAdmitted g.D.Disk old.keeper keeper = record { view = c.admit.ensures.view; meta = c.admit.ensures.same.0; seat = c.admit.ensures.same.1; notes = c.admit.ensures.same.2 } in
     let place = place-of-bytes old.geometry c.args.sector (length c.args.bytes.now) c.in-Some.block c.in-Some.first (sym c.place_of.ensures.value ∙ c.in-Some.is) c.in-Some.ensures.sector c.in-Some.ensures.within.0 c.in-Some.ensures.within.1 c.requires.bytes.1 in
     record {
       may = may-write-at g.D.Disk old stripe admitted keeper c.args.id c.in-Some.block c.in-Some.first (length c.args.bytes.now) c.args.room c.requires.may c.requires.once found c.in-Some.ensures.block place is c.admit-2.ensures.fits
-          c.admit-2.ensures.entries c.admit-2.ensures.buffers c.requires.bytes.0 keeper-is c.admit.ensures.fits c.admit.ensures.entries;
+          c.admit-2.ensures.entries c.admit-2.ensures.buffers c.requires.bytes.0 keeper-is c.admit.ensures.fits c.admit.ensures.entries c.admit.ensures.last;
     }
 
 pub returns-clause-fits : goal.returns-clause-fits
@@ -47,10 +48,12 @@ returns-clause-fits g c =
     let keeper = c.admit.new.self in
     let share = stripe-of-block old c.in-Some.block fits.shared c.in-Some.ensures.block in
     let found = slice_get_read old.stripes.items _ (c.in-Some.block / old.each) stripe refl share.1 c.index_mut-stripe.ensures.value in
-    let is : IsAdmitted g.D.Disk stripe admitted = record { view = c.admit-2.ensures.view; device = c.admit-2.ensures.same.0; seat = c.admit-2.ensures.same.1; cut = c.admit-2.ensures.same.2; notes = c.admit-2.ensures.same.4 } in
+    let is : IsAdmitted g.D.Disk stripe admitted = record { view = c.admit-2.ensures.view; device = c.admit-2.ensures.same.0; seat = c.admit-2.ensures.same.1; cut = c.admit-2.ensures.same.2; notes = c.admit-2.ensures.same.4; last = c.admit-2.ensures.last } in
     let keeper-is : IsKeeperAdmitted g.D.Disk old.keeper keeper = record { view = c.admit.ensures.view; meta = c.admit.ensures.same.0; seat = c.admit.ensures.same.1; notes = c.admit.ensures.same.2 } in
     let after = desk c.write_block.new.stripe c.write_block.new.keeper c.write_block.new.pass in
+    let drew = c.write_block.ensures.drew in
     fits-written g.D.Disk _ (only c.args.id) old (c.in-Some.block / old.each) stripe admitted keeper after fits found is keeper-is c.write_block.ensures.fits c.write_block.ensures.same c.write_block.ensures.drew.drew.keeps
+    (drew-asked drew.events (only c.args.id) old.pass c.write_block.new.pass (ask-write c.args.id c.in-Some.block c.in-Some.first c.args.bytes.now c.write_block.result (desk admitted keeper old.pass) drew.events drew.are) drew.drew fits.asked)
 
 pub returns-clause-stands : goal.returns-clause-stands
 returns-clause-stands g c =
@@ -61,7 +64,7 @@ returns-clause-stands g c =
     let keeper = c.admit.new.self in
     let share = stripe-of-block old c.in-Some.block fits.shared c.in-Some.ensures.block in
     let found = slice_get_read old.stripes.items _ (c.in-Some.block / old.each) stripe refl share.1 c.index_mut-stripe.ensures.value in
-    let is : IsAdmitted g.D.Disk stripe admitted = record { view = c.admit-2.ensures.view; device = c.admit-2.ensures.same.0; seat = c.admit-2.ensures.same.1; cut = c.admit-2.ensures.same.2; notes = c.admit-2.ensures.same.4 } in
+    let is : IsAdmitted g.D.Disk stripe admitted = record { view = c.admit-2.ensures.view; device = c.admit-2.ensures.same.0; seat = c.admit-2.ensures.same.1; cut = c.admit-2.ensures.same.2; notes = c.admit-2.ensures.same.4; last = c.admit-2.ensures.last } in
     let keeper-is : IsKeeperAdmitted g.D.Disk old.keeper keeper = record { view = c.admit.ensures.view; meta = c.admit.ensures.same.0; seat = c.admit.ensures.same.1; notes = c.admit.ensures.same.2 } in
     let after = desk c.write_block.new.stripe c.write_block.new.keeper c.write_block.new.pass in
     λ opening stands. stands-written g.D.Disk opening old (c.in-Some.block / old.each) stripe admitted keeper after stands found is keeper-is (c.write_block.ensures.stands opening)
@@ -75,7 +78,7 @@ returns-clause-did g c =
     let keeper = c.admit.new.self in
     let share = stripe-of-block old c.in-Some.block fits.shared c.in-Some.ensures.block in
     let found = slice_get_read old.stripes.items _ (c.in-Some.block / old.each) stripe refl share.1 c.index_mut-stripe.ensures.value in
-    let is : IsAdmitted g.D.Disk stripe admitted = record { view = c.admit-2.ensures.view; device = c.admit-2.ensures.same.0; seat = c.admit-2.ensures.same.1; cut = c.admit-2.ensures.same.2; notes = c.admit-2.ensures.same.4 } in
+    let is : IsAdmitted g.D.Disk stripe admitted = record { view = c.admit-2.ensures.view; device = c.admit-2.ensures.same.0; seat = c.admit-2.ensures.same.1; cut = c.admit-2.ensures.same.2; notes = c.admit-2.ensures.same.4; last = c.admit-2.ensures.last } in
     let keeper-is : IsKeeperAdmitted g.D.Disk old.keeper keeper = record { view = c.admit.ensures.view; meta = c.admit.ensures.same.0; seat = c.admit.ensures.same.1; notes = c.admit.ensures.same.2 } in
     let after = desk c.write_block.new.stripe c.write_block.new.keeper c.write_block.new.pass in
     did-write g.D.Disk _ c.args.id c.in-Some.block c.in-Some.first c.args.bytes.now c.write_block.result old stripe admitted keeper after (sym c.place_of.ensures.value ∙ c.in-Some.is) found is keeper-is (record {
@@ -94,7 +97,7 @@ returns-clause-keeps g c =
     let keeper = c.admit.new.self in
     let share = stripe-of-block old c.in-Some.block fits.shared c.in-Some.ensures.block in
     let found = slice_get_read old.stripes.items _ (c.in-Some.block / old.each) stripe refl share.1 c.index_mut-stripe.ensures.value in
-    let is : IsAdmitted g.D.Disk stripe admitted = record { view = c.admit-2.ensures.view; device = c.admit-2.ensures.same.0; seat = c.admit-2.ensures.same.1; cut = c.admit-2.ensures.same.2; notes = c.admit-2.ensures.same.4 } in
+    let is : IsAdmitted g.D.Disk stripe admitted = record { view = c.admit-2.ensures.view; device = c.admit-2.ensures.same.0; seat = c.admit-2.ensures.same.1; cut = c.admit-2.ensures.same.2; notes = c.admit-2.ensures.same.4; last = c.admit-2.ensures.last } in
     let keeper-is : IsKeeperAdmitted g.D.Disk old.keeper keeper = record { view = c.admit.ensures.view; meta = c.admit.ensures.same.0; seat = c.admit.ensures.same.1; notes = c.admit.ensures.same.2 } in
     let after = desk c.write_block.new.stripe c.write_block.new.keeper c.write_block.new.pass in
     let drew = c.write_block.ensures.drew in
@@ -113,7 +116,7 @@ returns-clause-same g c =
     let keeper = c.admit.new.self in
     let share = stripe-of-block old c.in-Some.block fits.shared c.in-Some.ensures.block in
     let found = slice_get_read old.stripes.items _ (c.in-Some.block / old.each) stripe refl share.1 c.index_mut-stripe.ensures.value in
-    let is : IsAdmitted g.D.Disk stripe admitted = record { view = c.admit-2.ensures.view; device = c.admit-2.ensures.same.0; seat = c.admit-2.ensures.same.1; cut = c.admit-2.ensures.same.2; notes = c.admit-2.ensures.same.4 } in
+    let is : IsAdmitted g.D.Disk stripe admitted = record { view = c.admit-2.ensures.view; device = c.admit-2.ensures.same.0; seat = c.admit-2.ensures.same.1; cut = c.admit-2.ensures.same.2; notes = c.admit-2.ensures.same.4; last = c.admit-2.ensures.last } in
     let keeper-is : IsKeeperAdmitted g.D.Disk old.keeper keeper = record { view = c.admit.ensures.view; meta = c.admit.ensures.same.0; seat = c.admit.ensures.same.1; notes = c.admit.ensures.same.2 } in
     let after = desk c.write_block.new.stripe c.write_block.new.keeper c.write_block.new.pass in
     same-written g.D.Disk old (c.in-Some.block / old.each) stripe admitted keeper after found is keeper-is c.write_block.ensures.same
