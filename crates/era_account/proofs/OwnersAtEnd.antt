@@ -1,5 +1,6 @@
 -- The owners of a session's devices at its end stand, from what stands of the session.
-use Rattle.std.proofs.Common.{◌≡◌, ℕ, zero, suc, ◌+◌, ◌-◌, ◌*◌, ◌<◌, ◌≤◌, Bool, false, List, [], ◌∷◌, length, map, min, Option, Some, None, slice_get, refl, sym, ap, ap₂, ◌∙◌, subst, arith}
+use Rattle.std.proofs.Common.{◌≡◌, ℕ, zero, suc, ◌+◌, ◌-◌, ◌*◌, ◌<◌, ◌≤◌, ◌==◌, Bool, true, false, List, [], ◌∷◌, length, map, min, Option, Some, None, slice_get, refl, sym, ap, ap₂, ◌∙◌, subst, inl, inr, eqb-true, arith}
+use Rattle.std.proofs.lemmas.Bool.{false≢true, or_cases}
 use Rattle.std.specs.Prelude.{unwrap_or}
 use Rattle.std.proofs.lemmas.List.{length-map}
 use Rattle.std.proofs.lemmas.Option.{none-some, slice_get_within}
@@ -7,11 +8,19 @@ use Rattle.era_base.specs.Geometry.{blocks_of, stripe_blocks}
 use Rattle.era_base.specs.declared.disk.Disk.{Ghosts}
 use Rattle.era_gate.specs.Acts.{Act, IsLegalFrom, opened, reach}
 use Rattle.era_gate.specs.Rule.{Each}
+use Rattle.era_gate.specs.Gathered.{account_of}
+use Rattle.era_gate.specs.Parts.{has_lane}
+use Rattle.era_gate.specs.Receipts.{entries_in}
+use Rattle.era_gate.specs.Requests.{LanesAskForMarks, MarksStandBehindRequests}
 use Rattle.era_gate.specs.Tells.{parts_of}
+use Rattle.era_gate.specs.declared.parts.LanePart.{LanePart}
+use Rattle.era_gate.specs.declared.stays.Receipt.{Receipt}
 use Rattle.era_gate.specs.declared.parts.StripePart.{StripePart}
 use Rattle.era_account.specs.Account.{HasEnded}
+use Rattle.era_journal.specs.ActsLog.{log_of}
 use Rattle.era_journal.specs.OwnersStand.{OwnersStand, StandsAt}
 use Rattle.era_journal.specs.Ranges.{IsRangeOf, blocks_each}
+use Rattle.era_journal.specs.Requests.{MarksFollowRequests}
 use Rattle.era_keeper.specs.Keepers.{view_of as keeper_view}
 use Rattle.era_model.specs.History.{blocks_at}
 use Rattle.era_model.specs.declared.journal.Journal.{Journal}
@@ -71,23 +80,43 @@ stands-at disk opening session places acts k stripe fits stands drew found =
       state = sym told.1 ∙ ap₂ (λ era d. (reach (opened era) acts).stripe d) (sym stands.era) (is.fits.seat ∙ is.index);
     }
 
+-- the receipts of a lane of the session are those of the acts, and in them marks stand behind their requests
+lane-asks : (own : ℕ → List Receipt) (lanes : List LanePart) (l : ℕ) → has_lane l lanes ≡ true → Each (λ (part : LanePart). own part.lane ≡ part.receipts) lanes → LanesAskForMarks lanes
+    → MarksStandBehindRequests None (entries_in (own l))
+lane-asks own [] l has are asked = absurd (false≢true has)
+lane-asks own (part ∷ lanes) l has are asked = elim (or_cases (l == part.lane) (has_lane l lanes) has) [
+  | inl here ↦
+      let same : l ≡ part.lane = eqb-true l part.lane here in
+      subst (λ (rs : List Receipt). MarksStandBehindRequests None (entries_in rs)) (sym (ap own same ∙ are.0)) asked.0
+  | inr there ↦ lane-asks own lanes l there are.1 asked.1
+]
+
+-- Marks follow their requests in the log where the receipts of each lane tell so.
+abbrev pub ReceiptsTell : Type 0
+ReceiptsTell =
+    (opening : Opening) (acts : List Act) → IsLegalFrom opening.stripes (opened opening.era) acts
+    → ((l : ℕ) → l < 65 → MarksStandBehindRequests None (entries_in ((account_of opening acts).lane l)))
+    → MarksFollowRequests opening (log_of opening.stripes acts)
+
 -- all of them do
-pub owners-stand : {D : Type 0} (disk : Ghosts D) (journal : Journal) (session : Session D) (places : ℕ) (acts : List Act) → HasEnded disk journal session places acts
+pub owners-stand : ReceiptsTell → {D : Type 0} (disk : Ghosts D) (journal : Journal) (session : Session D) (places : ℕ) (acts : List Act) → HasEnded disk journal session places acts
     → OwnersStand disk.tells journal.opening acts (stripe_views disk session.stripes.items) (keeper_view disk session.keeper)
-owners-stand {D} disk journal session places acts ended =
+owners-stand tell {D} disk journal session places acts ended =
     let opening = journal.opening in
     let fits = ended.fits in
     let stands = ended.stands in
     let drew = ended.drew in
+    let legal : IsLegalFrom opening.stripes (opened opening.era) acts =
+    subst (λ n. IsLegalFrom n (opened opening.era) acts) (sym stands.count) (subst (λ era. IsLegalFrom session.gate.plan.stripes (opened era) acts) (sym stands.era) drew.legal) in
+    let receipts = subst (λ era. Each (λ (part : LanePart). (reach (opened era) acts).lane part.lane ≡ part.receipts) session.pass.part.lanes) (sym stands.era) drew.receipts in
     record {
-      legal = subst (λ n. IsLegalFrom n (opened opening.era) acts) (sym stands.count) (subst (λ era. IsLegalFrom session.gate.plan.stripes (opened era) acts) (sym stands.era) drew.legal);
+      legal = legal;
       size = length-map session.stripes.items (stripe_view disk) ∙ fits.shared.stripes ∙ sym stands.count;
       stripes = λ k view at.
           let found = get-mapped (stripe_view disk) session.stripes.items k view at in
           subst (λ (v : StripeView). StandsAt disk.tells opening acts k v) found.2 (stands-at disk opening session places acts k found.0 fits stands drew found.1);
       keeper = stands.keeper.own;
       state = sym drew.keeper ∙ ap (λ era. (reach (opened era) acts).keeper) (sym stands.era);
-      marks = ended.marks;
+      marks = tell opening acts legal (λ l low. lane-asks (account_of opening acts).lane session.pass.part.lanes l (drew.every_lane l low) receipts fits.asked);
       contents = stands.contents;
-      usages = ended.usages;
     }

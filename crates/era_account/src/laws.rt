@@ -17,7 +17,7 @@ ghost use Rattle.era_session.specs.declared.session.Session.{Session};
 
 use era_base::Disk;
 use era_journal::devices_laws::{kept_metadata_ends_durable, owners_devices_follow};
-use era_journal::owners_laws::owners_make_a_legal_journal;
+use era_journal::owners_laws::{owners_make_a_legal_journal, receipts_tell_of_requests};
 
 /// At the end of a session the owners of its devices stand beside the acts of its gate.
 pub fn owners_stand_at_the_end<D: Disk>()
@@ -25,7 +25,9 @@ pub fn owners_stand_at_the_end<D: Disk>()
         → HasEnded D.Disk journal session places acts
         → OwnersStand D.tells journal.opening acts (stripe_views D.Disk session.stripes.items)
         (keeper_view D.Disk session.keeper) }
-{}
+{
+    receipts_tell_of_requests();
+}
 
 /// A session ends with a legal journal.
 pub fn ended_sessions_have_legal_journals<D: Disk>()

@@ -1,8 +1,7 @@
 -- Each draw of a log as the notes of its owner have it: with the condition that its own entries tell, and the counts of its device.
-use Rattle.std.proofs.Common.{◌≡◌, ℕ, ◌<◌, ◌≤◌, ◌⊎◌, Bool, false, List, [], ◌∷◌, length, refl, ap, sym, subst, inl, inr, arith}
+use Rattle.std.proofs.Common.{◌≡◌, ℕ, ◌<◌, ◌≤◌, ◌⊎◌, Bool, List, [], ◌∷◌, length, refl, ap, sym, subst, inl, inr, arith}
 use Rattle.std.proofs.lemmas.Bool.{eq-eqb, ne_eqb}
 use Rattle.std.proofs.lemmas.Bool.Decides.{eqb_tells}
-use Rattle.era_journal.specs.OwnersStand.{StatusesTellUsage, TellsUsage}
 use Rattle.era_journal.specs.Ranges.{IsRangeOf}
 use Rattle.era_keeper.specs.OwnEntries.{AreKeepersLegal, KeeperMay}
 use Rattle.era_model.specs.declared.entry.Entry.{Entry}
@@ -25,16 +24,15 @@ pub record StripeNotes (tells : Bool) (opening : Opening) (stripe : ℕ) (log : 
   pub counts : CountsRise least faults notes
 
 -- What the keeper's notes say, where they have its draws of a log.
-pub record KeeperNotes (tells : Bool) (opening : Opening) (keeper : ℕ) (log : List Draw) : Type 0 where
+pub record KeeperNotes (opening : Opening) (keeper : ℕ) (log : List Draw) : Type 0 where
   pub notes : List Note
   pub own : noted_entries notes ≡ own_entries keeper log
-  pub legal : AreKeepersLegal tells opening notes
-  pub usages : tells ≡ false → StatusesTellUsage opening notes
+  pub legal : AreKeepersLegal opening notes
 
 -- The notes of all owners.
 pub record OwnersNotes (tells : Bool) (opening : Opening) (log : List Draw) : Type 0 where
   pub stripes : (stripe : ℕ) → stripe < opening.stripes → StripeNotes tells opening stripe log
-  pub keeper : KeeperNotes tells opening opening.stripes log
+  pub keeper : KeeperNotes opening opening.stripes log
 
 -- What a stripe's notes say of its draw.
 pub record StripeDrew (tells : Bool) (opening : Opening) (stripe : ℕ) (earlier : List Draw) (event : Event) : Type 0 where
@@ -50,14 +48,13 @@ pub record StripeDrew (tells : Bool) (opening : Opening) (stripe : ℕ) (earlier
   pub counts : CountsRise least faults notes
 
 -- What the keeper's notes say of its draw.
-pub record KeeperDrew (tells : Bool) (opening : Opening) (drawer : ℕ) (earlier : List Draw) (event : Event) : Type 0 where
+pub record KeeperDrew (opening : Opening) (drawer : ℕ) (earlier : List Draw) (event : Event) : Type 0 where
   pub last : drawer ≡ opening.stripes
-  pub may : KeeperMay tells (drawer_history opening drawer earlier) event
-  pub usage : tells ≡ false → TellsUsage (drawer_history opening drawer earlier) event
+  pub may : KeeperMay (drawer_history opening drawer earlier) event
 
 -- A draw is a stripe's or the keeper's.
 abbrev pub Drew : Bool → Opening → ℕ → List Draw → Event → Type 0
-Drew tells opening drawer earlier event = StripeDrew tells opening drawer earlier event ⊎ KeeperDrew tells opening drawer earlier event
+Drew tells opening drawer earlier event = StripeDrew tells opening drawer earlier event ⊎ KeeperDrew opening drawer earlier event
 
 -- Each draw of a log.
 abbrev pub AllDrew : Bool → Opening → List Draw → Type 0
@@ -125,22 +122,20 @@ stripe-before tells opening stripe draw earlier has = elim (eqb_tells draw.drawe
   }
 ]
 
-keeper-before : (tells : Bool) (opening : Opening) (keeper : ℕ) (draw : Draw) (earlier : List Draw) → KeeperNotes tells opening keeper (draw ∷ earlier) → KeeperNotes tells opening keeper earlier
-keeper-before tells opening keeper draw earlier has = elim (eqb_tells draw.drawer keeper) [
+keeper-before : (opening : Opening) (keeper : ℕ) (draw : Draw) (earlier : List Draw) → KeeperNotes opening keeper (draw ∷ earlier) → KeeperNotes opening keeper earlier
+keeper-before opening keeper draw earlier has = elim (eqb_tells draw.drawer keeper) [
   | inl same ↦
       let of = own-draw keeper draw earlier has.notes same.1 has.own in
-      let legal : AreKeepersLegal tells opening (of.note ∷ of.before) = subst (AreKeepersLegal tells opening) of.all has.legal in
+      let legal : AreKeepersLegal opening (of.note ∷ of.before) = subst (AreKeepersLegal opening) of.all has.legal in
       record {
         notes = of.before;
         own = of.own;
         legal = legal.1;
-        usages = λ silent. (subst (StatusesTellUsage opening) of.all (has.usages silent)).1;
       }
   | inr apart ↦ record {
     notes = has.notes;
     own = other-draw keeper draw earlier has.notes apart.1 has.own;
     legal = has.legal;
-    usages = has.usages;
   }
 ]
 
@@ -165,17 +160,15 @@ stripe-drew agree tells opening stripe draw earlier low same has =
       counts = counts.2;
     }
 
-keeper-drew : HistoriesAgree → (tells : Bool) (opening : Opening) (draw : Draw) (earlier : List Draw) → draw.drawer ≡ opening.stripes → KeeperNotes tells opening draw.drawer (draw ∷ earlier)
-    → KeeperDrew tells opening draw.drawer earlier draw.event
-keeper-drew agree tells opening draw earlier last has =
+keeper-drew : HistoriesAgree → (opening : Opening) (draw : Draw) (earlier : List Draw) → draw.drawer ≡ opening.stripes → KeeperNotes opening draw.drawer (draw ∷ earlier)
+    → KeeperDrew opening draw.drawer earlier draw.event
+keeper-drew agree opening draw earlier last has =
     let of = own-draw draw.drawer draw earlier has.notes refl has.own in
-    let legal : AreKeepersLegal tells opening (of.note ∷ of.before) = subst (AreKeepersLegal tells opening) of.all has.legal in
+    let legal : AreKeepersLegal opening (of.note ∷ of.before) = subst (AreKeepersLegal opening) of.all has.legal in
     let history = agree opening draw.drawer earlier of.before of.own in
     record {
       last = last;
-      may = subst (KeeperMay tells (drawer_history opening draw.drawer earlier)) of.event (subst (λ h. KeeperMay tells h of.note.entry.event) history legal.0);
-      usage = λ silent. subst (TellsUsage (drawer_history opening draw.drawer earlier)) of.event
-          (subst (λ h. TellsUsage h of.note.entry.event) history (subst (StatusesTellUsage opening) of.all (has.usages silent)).0);
+      may = subst (KeeperMay (drawer_history opening draw.drawer earlier)) of.event (subst (λ h. KeeperMay h of.note.entry.event) history legal.0);
     }
 
 below-or-last : (drawer keeper : ℕ) → drawer ≤ keeper → (drawer < keeper) ⊎ (drawer ≡ keeper)
@@ -187,7 +180,7 @@ below-or-last drawer keeper le = elim (eqb_tells drawer keeper) [
 drew : HistoriesAgree → (tells : Bool) (opening : Opening) (draw : Draw) (earlier : List Draw) → draw.drawer ≤ opening.stripes → OwnersNotes tells opening (draw ∷ earlier) → Drew tells opening draw.drawer earlier draw.event
 drew agree tells opening draw earlier within have = elim (below-or-last draw.drawer opening.stripes within) [
   | inl low ↦ inl (stripe-drew agree tells opening draw.drawer draw earlier low refl (have.stripes draw.drawer low))
-  | inr last ↦ inr (keeper-drew agree tells opening draw earlier last (subst (λ d. KeeperNotes tells opening d (draw ∷ earlier)) (sym last) have.keeper))
+  | inr last ↦ inr (keeper-drew agree opening draw earlier last (subst (λ d. KeeperNotes opening d (draw ∷ earlier)) (sym last) have.keeper))
 ]
 
 -- each draw
@@ -197,6 +190,6 @@ all-drew agree tells opening (draw ∷ earlier) within have = (
   drew agree tells opening draw earlier within.0 have,
   all-drew agree tells opening earlier within.1 (record {
     stripes = λ stripe low. stripe-before tells opening stripe draw earlier (have.stripes stripe low);
-    keeper = keeper-before tells opening opening.stripes draw earlier have.keeper;
+    keeper = keeper-before opening opening.stripes draw earlier have.keeper;
   }),
 )

@@ -58,17 +58,17 @@ stripe-owns tells opening stripe part own whole (Cut id faults) range may meets 
 stripe-owns tells opening stripe part own whole (Settle by cut bytes) range may meets = may.pending
 stripe-owns tells opening stripe part own whole event range may meets = tt
 
-keeper-owns : (tells : Bool) (drawer_of : ℕ → ℕ) (drawer : ℕ) (own whole : List Happening) (event : Event) → KeeperMay tells own event → OwnsDraw drawer_of drawer own whole event
-keeper-owns tells drawer_of drawer own whole (Go id block era first bytes) may = absurd may
-keeper-owns tells drawer_of drawer own whole (Done id) may = absurd may
-keeper-owns tells drawer_of drawer own whole (Cut id faults) may = absurd may
-keeper-owns tells drawer_of drawer own whole (Settle by cut bytes) may = absurd may
-keeper-owns tells drawer_of drawer own whole event may = tt
+keeper-owns : (drawer_of : ℕ → ℕ) (drawer : ℕ) (own whole : List Happening) (event : Event) → KeeperMay own event → OwnsDraw drawer_of drawer own whole event
+keeper-owns drawer_of drawer own whole (Go id block era first bytes) may = absurd may
+keeper-owns drawer_of drawer own whole (Done id) may = absurd may
+keeper-owns drawer_of drawer own whole (Cut id faults) may = absurd may
+keeper-owns drawer_of drawer own whole (Settle by cut bytes) may = absurd may
+keeper-owns drawer_of drawer own whole event may = tt
 
 owns : (tells : Bool) (opening : Opening) (drawer : ℕ) (earlier : List Draw) (event : Event) → Drew tells opening drawer earlier event → MeetsGate (logged_history opening earlier) event
     → OwnsDraw (stripe_at opening) drawer (drawer_history opening drawer earlier) (logged_history opening earlier) event
 owns tells opening drawer earlier event (inl by) meets = stripe-owns tells opening drawer by.part (drawer_history opening drawer earlier) (logged_history opening earlier) event by.range by.may meets
-owns tells opening drawer earlier event (inr by) meets = keeper-owns tells (stripe_at opening) drawer (drawer_history opening drawer earlier) (logged_history opening earlier) event by.may
+owns tells opening drawer earlier event (inr by) meets = keeper-owns (stripe_at opening) drawer (drawer_history opening drawer earlier) (logged_history opening earlier) event by.may
 
 pub all-own : (tells : Bool) (opening : Opening) (log : List Draw) → AllDrew tells opening log → AllMeet opening log → AreOwnDraws opening (stripe_at opening) log
 all-own tells opening [] drew meet = tt
@@ -93,23 +93,23 @@ stripe-may tells opening stripe part earlier (Refused id kind Idle) range may = 
 stripe-may tells opening stripe part earlier (Refused id kind Memory) range may = absurd may
 stripe-may tells opening stripe part earlier event range may = absurd may
 
-keeper-none : (tells : Bool) (own : List Happening) (event : Event) → KeeperMay tells own event → is_of_stripes event ≡ false
-keeper-none tells own (Go id block era first bytes) may = absurd may
-keeper-none tells own (Done id) may = absurd may
-keeper-none tells own (Cut id faults) may = absurd may
-keeper-none tells own (Settle by cut bytes) may = absurd may
-keeper-none tells own (Unsettled by cut faults) may = absurd may
-keeper-none tells own (Read id sector bytes) may = absurd may
-keeper-none tells own (Kept id inside) may = refl
-keeper-none tells own (Status id used total era held) may = refl
-keeper-none tells own (Refused id kind (DataFault stripe count)) may = absurd may
-keeper-none tells own (Refused id kind (MetaFault count)) may = refl
-keeper-none tells own (Refused id kind End) may = refl
-keeper-none tells own (Refused id kind (Held block)) may = refl
-keeper-none tells own (Refused id kind NoSnap) may = refl
-keeper-none tells own (Refused id kind Idle) may = refl
-keeper-none tells own (Refused id kind Memory) may = refl
-keeper-none tells own event may = refl
+keeper-none : (own : List Happening) (event : Event) → KeeperMay own event → is_of_stripes event ≡ false
+keeper-none own (Go id block era first bytes) may = absurd may
+keeper-none own (Done id) may = absurd may
+keeper-none own (Cut id faults) may = absurd may
+keeper-none own (Settle by cut bytes) may = absurd may
+keeper-none own (Unsettled by cut faults) may = absurd may
+keeper-none own (Read id sector bytes) may = absurd may
+keeper-none own (Kept id inside) may = refl
+keeper-none own (Status id used total era held) may = refl
+keeper-none own (Refused id kind (DataFault stripe count)) may = absurd may
+keeper-none own (Refused id kind (MetaFault count)) may = refl
+keeper-none own (Refused id kind End) may = refl
+keeper-none own (Refused id kind (Held block)) may = refl
+keeper-none own (Refused id kind NoSnap) may = refl
+keeper-none own (Refused id kind Idle) may = refl
+keeper-none own (Refused id kind Memory) may = refl
+keeper-none own event may = refl
 
 -- a stripe isn't the keeper
 pub stripe-apart : (stripe keeper : ℕ) → stripe < keeper → (stripe == keeper) ≡ true → ⊥
@@ -122,7 +122,7 @@ owner-may tells opening drawer earlier event (inl by) = record {
   stripes = λ is. stripe-may tells opening drawer by.part earlier event by.range by.may;
 }
 owner-may tells opening drawer earlier event (inr by) = record {
-  keepers = λ is. keeper-none tells (drawer_history opening drawer earlier) event by.may;
+  keepers = λ is. keeper-none (drawer_history opening drawer earlier) event by.may;
   stripes = λ is. absurd (false≢true (sym is ∙ eq-eqb drawer opening.stripes by.last));
 }
 

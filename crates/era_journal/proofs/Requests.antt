@@ -9,7 +9,8 @@ use Rattle.std.proofs.lemmas.Option.{same_Some}
 use Rattle.era_base.specs.declared.ids.CmdId.{CmdId}
 use Rattle.era_gate.specs.Acts.{lane_of}
 use Rattle.era_gate.specs.Receipts.{entries_for}
-use Rattle.era_journal.specs.Requests.{FollowsRequest, IsAskedBy, MarksFollowRequests, MarksStandBehindRequests}
+use Rattle.era_gate.specs.Requests.{IsAskedBy, MarksStandBehindRequests}
+use Rattle.era_journal.specs.Requests.{FollowsRequest, MarksFollowRequests}
 use Rattle.era_model.specs.declared.entry.Entry.{Entry}
 use Rattle.era_model.specs.declared.event.Event.{Event}
 use Rattle.era_model.specs.declared.event.Event.TheVariants.{Tried, Mark}

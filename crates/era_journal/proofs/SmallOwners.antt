@@ -22,14 +22,14 @@ opens = record { valid = valid-unmarked; sectors = refl; block_sectors = refl; e
 
 legal-acts : IsLegalFrom 1 (opened 1) write_acts
 legal-acts = (
-  (refl, refl),
+  ((refl, refl), lit< tt),
   (
-    (refl, refl),
+    ((refl, refl), lit< tt),
     (
-      record { low = lit< tt; outside = refl; number = refl; floor = lit≤ tt },
+      record { low = lit< tt; outside = refl; number = refl; floor = lit≤ tt; lane = lit< tt },
       (
-        (lit< tt, record { inside = refl; alone = refl; marked = refl; present = refl; switched = refl; once = refl }),
-        ((lit< tt, refl), (record { low = lit< tt; inside = refl; idle = refl; number = refl }, tt)),
+        (lit< tt, (record { inside = refl; alone = refl; marked = refl; present = refl; switched = refl; once = refl }, lit< tt)),
+        ((lit< tt, (refl, lit< tt)), (record { low = lit< tt; inside = refl; idle = refl; number = refl }, tt)),
       ),
     ),
   ),
@@ -101,7 +101,6 @@ owners-stand laws = record {
   state = refl;
   marks = (tt, (tt, (refl, (tt, tt))));
   contents = λ silent. refl;
-  usages = λ silent. (tt, (tt, tt));
 }
 
 -- others
@@ -109,7 +108,7 @@ pub other-part : OwnersStand false silent_opening write_acts (stripe_seen (part_
 other-part stand = let none : 0 ≡ 1 = (stand.stripes 0 (stripe_seen (part_with 0)) refl).range.blocks in omega (arith, none)
 
 pub early-write : (views : List StripeView) (keeper : KeeperView) → OwnersStand false silent_opening early_acts views keeper → ⊥
-early-write views keeper stand = let unmarked : false ≡ true = stand.legal.1.1.0.1.marked in absurd (false≢true unmarked)
+early-write views keeper stand = let unmarked : false ≡ true = stand.legal.1.1.0.1.0.marked in absurd (false≢true unmarked)
 
 pub late-mark : MarksFollowRequests silent_opening late_log → ⊥
 late-mark follow = let last = follow.0 in cc

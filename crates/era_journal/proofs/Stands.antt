@@ -67,7 +67,7 @@ owners-notes laws tells opening acts views keeper stand = record {
   stripes = λ stripe low.
       let found = view-at views opening.stripes stripe stand.size low in
       stripe-notes laws tells opening acts stripe found.0 low (stand.stripes stripe found.0 found.1);
-  keeper = record { notes = keeper.notes; own = keeper-own laws tells opening acts views keeper stand; legal = stand.keeper.legal; usages = stand.usages };
+  keeper = record { notes = keeper.notes; own = keeper-own laws tells opening acts views keeper stand; legal = stand.keeper.legal };
 }
 
 pub stand-drew : Laws → (tells : Bool) (opening : Opening) (acts : List Act) (views : List StripeView) (keeper : KeeperView) → OwnersStand tells opening acts views keeper → AllDrew tells opening (log_of opening.stripes acts)

@@ -9,10 +9,7 @@ use Rattle.era_model.specs.declared.event.Why.TheVariants.{DataFault, MetaFault,
 use Rattle.era_model.specs.declared.history.Happening.{Happening}
 use Rattle.era_model.specs.declared.opening.Opening.{Opening}
 use Rattle.era_model.specs.Counts.{CountAscends, PartOf}
-use Rattle.era_model.specs.Marking.{held_of, marks_of}
-use Rattle.era_model.specs.Usage.{IsUsage}
 use Rattle.era_gate.specs.ModelLaw.{MeetsGate}
-use Rattle.era_journal.specs.OwnersStand.{TellsUsage}
 use Rattle.era_journal.specs.Requests.{FollowsRequest, MarksFollowRequests}
 use Rattle.era_journal.proofs.Drews.{AllDrew, Drew, StripeDrew}
 use Rattle.era_journal.proofs.Meets.{AllMeet}
@@ -78,43 +75,34 @@ stripe-tells laws tells opening stripe earlier (Refused id kind Memory) none own
 stripe-tells laws tells opening stripe earlier event none owners by = absurd by.may
 
 -- the keeper tells
-usage-told : (tells : Bool) (Is : Type 0) → (tells ≡ true → Is) → (tells ≡ false → Is) → Is
-usage-told true Is told silent = told refl
-usage-told false Is told silent = silent refl
-
-keeper-tells : (tells : Bool) (opening : Opening) (drawer : ℕ) (own whole : List Happening) (event : Event) → KeeperMay tells own event → (tells ≡ false → TellsUsage own event) → OwnerTells opening drawer own whole event
-keeper-tells tells opening drawer own whole (Mark id block era) may usage = may.of_origin
-keeper-tells tells opening drawer own whole (Go id block era first bytes) may usage = absurd may
-keeper-tells tells opening drawer own whole (Done id) may usage = absurd may
-keeper-tells tells opening drawer own whole (Cut id faults) may usage = absurd may
-keeper-tells tells opening drawer own whole (Settle by cut bytes) may usage = absurd may
-keeper-tells tells opening drawer own whole (Unsettled by cut faults) may usage = absurd may
-keeper-tells tells opening drawer own whole (Read id sector bytes) may usage = absurd may
-keeper-tells tells opening drawer own whole (Roll id era) may usage = tt
-keeper-tells tells opening drawer own whole (Kept id inside) may usage = tt
-keeper-tells tells opening drawer own whole (Status id used total era held) may usage = record {
-  usage = usage-told tells (IsUsage (marks_of own) (held_of own) used) may.usage usage;
-  size = may.size;
-  present = may.present;
-  snapshot = may.snapshot;
-}
-keeper-tells tells opening drawer own whole (Refused id kind (DataFault stripe count)) may usage = absurd may
-keeper-tells tells opening drawer own whole (Refused id kind (MetaFault count)) may usage = may
-keeper-tells tells opening drawer own whole (Refused id kind End) may usage = may
-keeper-tells tells opening drawer own whole (Refused id kind (Held block)) may usage = may
-keeper-tells tells opening drawer own whole (Refused id kind NoSnap) may usage = may
-keeper-tells tells opening drawer own whole (Refused id kind Idle) may usage = may
-keeper-tells tells opening drawer own whole (Refused id kind Memory) may usage = may
-keeper-tells tells opening drawer own whole (Tried id block era) may usage = may
-keeper-tells tells opening drawer own whole (Snap id block) may usage = may
-keeper-tells tells opening drawer own whole (Dropped id) may usage = may
-keeper-tells tells opening drawer own whole (Digest id era page) may usage = may
-keeper-tells tells opening drawer own whole (ListEvent id since snap blocks) may usage = may
+keeper-tells : (opening : Opening) (drawer : ℕ) (own whole : List Happening) (event : Event) → KeeperMay own event → OwnerTells opening drawer own whole event
+keeper-tells opening drawer own whole (Mark id block era) may = may.of_origin
+keeper-tells opening drawer own whole (Go id block era first bytes) may = absurd may
+keeper-tells opening drawer own whole (Done id) may = absurd may
+keeper-tells opening drawer own whole (Cut id faults) may = absurd may
+keeper-tells opening drawer own whole (Settle by cut bytes) may = absurd may
+keeper-tells opening drawer own whole (Unsettled by cut faults) may = absurd may
+keeper-tells opening drawer own whole (Read id sector bytes) may = absurd may
+keeper-tells opening drawer own whole (Roll id era) may = tt
+keeper-tells opening drawer own whole (Kept id inside) may = tt
+keeper-tells opening drawer own whole (Status id used total era held) may = may
+keeper-tells opening drawer own whole (Refused id kind (DataFault stripe count)) may = absurd may
+keeper-tells opening drawer own whole (Refused id kind (MetaFault count)) may = may
+keeper-tells opening drawer own whole (Refused id kind End) may = may
+keeper-tells opening drawer own whole (Refused id kind (Held block)) may = may
+keeper-tells opening drawer own whole (Refused id kind NoSnap) may = may
+keeper-tells opening drawer own whole (Refused id kind Idle) may = may
+keeper-tells opening drawer own whole (Refused id kind Memory) may = may
+keeper-tells opening drawer own whole (Tried id block era) may = may
+keeper-tells opening drawer own whole (Snap id block) may = may
+keeper-tells opening drawer own whole (Dropped id) may = may
+keeper-tells opening drawer own whole (Digest id era page) may = may
+keeper-tells opening drawer own whole (ListEvent id since snap blocks) may = may
 
 owner-tells : Laws → (tells : Bool) (opening : Opening) (drawer : ℕ) (earlier : List Draw) (event : Event) → (tells ≡ false → opening.contents.bytes ≡ None) → AreDrawnByOwners opening.stripes opening earlier → Drew tells opening drawer earlier event
     → OwnerTells opening drawer (drawer_history opening drawer earlier) (logged_history opening earlier) event
 owner-tells laws tells opening drawer earlier event none owners (inl by) = stripe-tells laws tells opening drawer earlier event none owners by
-owner-tells laws tells opening drawer earlier event none owners (inr by) = keeper-tells tells opening drawer (drawer_history opening drawer earlier) (logged_history opening earlier) event by.may by.usage
+owner-tells laws tells opening drawer earlier event none owners (inr by) = keeper-tells opening drawer (drawer_history opening drawer earlier) (logged_history opening earlier) event by.may
 
 -- what is told beside
 told-beside : (h : List Happening) (event : Event) → MeetsGate h event → FollowsRequest h event → IsToldBeside h event

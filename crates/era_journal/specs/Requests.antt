@@ -1,6 +1,5 @@
--- Marks behind the requests for them, in a log and in the entries of one lane.
-use Rattle.std.specs.Prelude.{◌≡◌, List, [], ◌∷◌, Option, Some}
-use Rattle.era_model.specs.declared.entry.Entry.{Entry}
+-- Marks behind the requests for them, in a log.
+use Rattle.std.specs.Prelude.{◌≡◌, List, [], ◌∷◌, Some}
 use Rattle.era_model.specs.declared.event.Event.{Event}
 use Rattle.era_model.specs.declared.event.Event.TheVariants.{Tried, Mark}
 use Rattle.era_model.specs.declared.history.Happening.{Happening}
@@ -17,13 +16,3 @@ FollowsRequest h event = Unit {0}
 abbrev pub MarksFollowRequests : Opening → List Draw → Type 0
 MarksFollowRequests opening [] = Unit {0}
 MarksFollowRequests opening (draw ∷ earlier) = FollowsRequest (logged_history opening earlier) draw.event × MarksFollowRequests opening earlier
-
--- The event before a mark, if there is one, asks for it.
-abbrev pub IsAskedBy : Option Event → Event → Type 0
-IsAskedBy before (Mark id block era) = before ≡ Some (Tried id block era)
-IsAskedBy before event = Unit {0}
-
--- Among entries, behind an event or none, each mark stands directly behind its request.
-abbrev pub MarksStandBehindRequests : Option Event → List Entry → Type 0
-MarksStandBehindRequests before [] = Unit {0}
-MarksStandBehindRequests before (entry ∷ entries) = IsAskedBy before entry.event × MarksStandBehindRequests (Some entry.event) entries

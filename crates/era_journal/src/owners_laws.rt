@@ -2,7 +2,7 @@
 //! their clauses are the laws.
 
 ghost use Rattle.std.specs.Prelude.{◌≡◌, ◌<◌, ℕ, All, Bool, List, None, Some, slice_get};
-ghost use Rattle.era_gate.specs.Acts.{Act, lane_of};
+ghost use Rattle.era_gate.specs.Acts.{Act, IsLegalFrom, lane_of, opened};
 ghost use Rattle.era_gate.specs.Drawn.{drawn};
 ghost use Rattle.era_gate.specs.Gathered.{account_of};
 ghost use Rattle.era_gate.specs.Receipts.{entries_in};
@@ -13,7 +13,8 @@ ghost use Rattle.era_gate.specs.declared.parts.StripePart.{StripePart};
 ghost use Rattle.era_gate.specs.declared.plan.Plan.{Plan};
 ghost use Rattle.era_journal.specs.ActsLog.{log_of};
 ghost use Rattle.era_journal.specs.OwnersStand.{OwnersStand};
-ghost use Rattle.era_journal.specs.Requests.{MarksFollowRequests, MarksStandBehindRequests};
+ghost use Rattle.era_gate.specs.Requests.{MarksStandBehindRequests};
+ghost use Rattle.era_journal.specs.Requests.{MarksFollowRequests};
 ghost use Rattle.era_keeper.specs.Keepers.{KeeperView};
 ghost use Rattle.era_model.specs.Legal.{IsLegalJournal};
 ghost use Rattle.era_model.specs.declared.entry.Entry.{Entry};
@@ -87,7 +88,8 @@ pub fn seats_have_the_states_of_acts()
 {}
 
 /// Where among the entries of each lane's receipts each mark stands directly behind its request, it follows its request in
-/// the log. Where all that was drawn is of lanes below a number, the receipts of these tell it.
+/// the log. Where all that was drawn is of lanes below a number, the receipts of these tell it; and of legal acts those of
+/// the 65 lanes do.
 pub fn receipts_tell_of_requests()
     ensures all { (opening : Opening) (acts : List Act)
         → ((l : ℕ) → MarksStandBehindRequests None
@@ -96,6 +98,11 @@ pub fn receipts_tell_of_requests()
     ensures below { (opening : Opening) (acts : List Act) (lanes : ℕ)
         → All (λ (entry : Entry). lane_of entry.event < lanes) (drawn 0 acts)
         → ((l : ℕ) → l < lanes → MarksStandBehindRequests None
+        (entries_in ((account_of opening acts).lane l)))
+        → MarksFollowRequests opening (log_of opening.stripes acts) }
+    ensures legal { (opening : Opening) (acts : List Act)
+        → IsLegalFrom opening.stripes (opened opening.era) acts
+        → ((l : ℕ) → l < 65 → MarksStandBehindRequests None
         (entries_in ((account_of opening acts).lane l)))
         → MarksFollowRequests opening (log_of opening.stripes acts) }
 {
