@@ -1,7 +1,7 @@
 -- A keeper of an origin of 64 blocks, behind a gate: what its scripts ask.
-use Rattle.std.specs.Prelude.{◌≡◌, ℕ, ◌+◌, ◌≤◌, true}
+use Rattle.std.specs.Prelude.{◌≡◌, ℕ, ◌+◌, ◌≤◌, true, false, None}
 use Rattle.era_base.specs.declared.disk.Disk.{Ghosts}
-use Rattle.era_gate.specs.Calls.{GateToken, PassToken, has_lane}
+use Rattle.era_gate.specs.Calls.{GateToken, PassToken, StripeToken, has_lane}
 use Rattle.era_keeper.specs.declared.keeper.Keeper.{Keeper}
 use Rattle.era_keeper.specs.Keepers.{KeeperFits}
 
@@ -19,3 +19,9 @@ pub record IsBench {D : Type 0} (disk : Ghosts D) (drawn : ℕ) (gate : GateToke
   pub fits : KeeperFits disk keeper
   pub lane : has_lane 0 pass.part.lanes ≡ true
   pub budget : 1000 ≤ pass.part.budget + drawn
+
+-- The stripe of a gate is outside it, without an open write.
+pub record IsOutside (gate : GateToken) (stripe : StripeToken) : Type 0 where
+  pub table : stripe.table ≡ gate.table
+  pub outside : stripe.part.state.inside ≡ false
+  pub idle : stripe.part.state.flight ≡ None

@@ -2,21 +2,23 @@
 
 ghost use Rattle.std.specs.Prelude.{◌+◌, ◌*◌, ◌<◌, IfOk, OnOk};
 ghost use Rattle.era_keeper.specs.Calls.{MayCall};
-ghost use Rattle.era_keeper_scripts.specs.Benches.{IsBench};
+ghost use Rattle.era_keeper_scripts.specs.Benches.{IsBench, IsOutside};
 
 use era_base::{CmdId, Disk, Memory, Runs};
-use era_gate::{Gate, Pass};
+use era_gate::{Gate, Pass, StripeSeat};
 use era_keeper::Keeper;
 use era_model::Answer;
 use era_notes::Room;
 use std::alloc::Global;
 
-/// What a script asks of a keeper: the mark of a block, and a list of the blocks since an era by the marks or by the snapshot.
+/// What a script asks of a keeper: the mark of a block, a checkpoint with a stripe inside, and a list of the blocks since an
+/// era by the marks or by the snapshot.
 #[derive(Clone, Copy, Debug, PartialEq, Eq)]
 pub enum Task {
     Nothing,
     Mark(u32),
     Checkpoint,
+    Keep,
     Snap,
     Unsnap,
     Digest,
@@ -33,6 +35,7 @@ pub enum Said {
     Done,
     Fault(u64),
     EraIs(u32),
+    Kept(u32),
     NoSnap,
     Held,
     Digested(u32, Option<u32>),
@@ -66,6 +69,7 @@ fn said_of(answer: &Answer) -> Said {
         Answer::Fine | Answer::Snap(2) => Said::Done,
         Answer::Fault(_, count) => Said::Fault(*count),
         Answer::EraIs(era) => Said::EraIs(*era),
+        Answer::Kept(inside) => Said::Kept(*inside),
         Answer::NoSnap => Said::NoSnap,
         Answer::Held(2) => Said::Held,
         Answer::Digest(era, page) => Said::Digested(*era, *page),
@@ -131,6 +135,27 @@ fn checkpoint<D: Disk>(
 {
     let id = ready(alloc, gate, keeper, pass, number)?;
     Ok(said_of(&keeper.checkpoint(gate, pass, id)))
+}
+
+/// Asks for the next era while the stripe is inside.
+fn keep<D: Disk>(
+    alloc: Global,
+    gate: &Gate,
+    stripe: &mut StripeSeat,
+    keeper: &mut Keeper<D>,
+    pass: &mut Pass,
+    number: u32,
+) -> Result<Said, Memory>
+    requires bench { IsBench D.Disk (2 * number) gate.now keeper.old pass.old }
+    requires few { number < 100 }
+    requires outside { IsOutside gate.now stripe.old }
+    ensures bench { OnOk result (IsBench D.Disk (2 * number + 2) gate.now keeper.new pass.new) }
+    ensures outside { OnOk result (IsOutside gate.now stripe.new) }
+{
+    gate.enter(stripe, pass, CmdId { lane: 0, number });
+    let said = checkpoint(alloc, gate, keeper, pass, number)?;
+    gate.leave(stripe, pass);
+    Ok(said)
 }
 
 /// Takes a snapshot.
@@ -231,6 +256,7 @@ fn idle<D: Disk>(gate: &Gate, keeper: &Keeper<D>, pass: &Pass, number: u32) -> S
 pub fn run<D: Disk>(
     alloc: Global,
     gate: &Gate,
+    stripe: &mut StripeSeat,
     keeper: &mut Keeper<D>,
     pass: &mut Pass,
     number: u32,
@@ -238,11 +264,14 @@ pub fn run<D: Disk>(
 ) -> Result<Said, Memory>
     requires bench { IsBench D.Disk (2 * number) gate.now keeper.old pass.old }
     requires few { number < 100 }
+    requires outside { IsOutside gate.now stripe.old }
     ensures bench { OnOk result (IsBench D.Disk (2 * number + 2) gate.now keeper.new pass.new) }
+    ensures outside { OnOk result (IsOutside gate.now stripe.new) }
 {
     match task {
         Task::Mark(block) if block < 64 => mark(alloc, gate, keeper, pass, number, block),
         Task::Checkpoint => checkpoint(alloc, gate, keeper, pass, number),
+        Task::Keep => keep(alloc, gate, stripe, keeper, pass, number),
         Task::Snap => snap(alloc, gate, keeper, pass, number),
         Task::Unsnap => unsnap(alloc, gate, keeper, pass, number),
         Task::Digest => digest(alloc, gate, keeper, pass, number),

@@ -10,3 +10,7 @@ mod commands;
 mod rows;
 #[cfg(test)]
 mod scripts;
+#[cfg(test)]
+mod stories;
+#[cfg(test)]
+mod sweeps;

@@ -238,6 +238,117 @@ fn a_failed_checkpoint_is_stored_by_a_later_command(rt: HostRuntime) -> Result<(
     Ok(())
 }
 
+/// A command behind a checkpoint whose commit failed, how it is answered where the era is stored first, and the era behind it.
+const NEXT: [(Task, Said, u32); 7] = [
+    (Task::Blocks(1, false), Said::Listed([false; 4]), 2),
+    (Task::Status, Said::Used(5, 2), 2),
+    (Task::Mark(0), Said::Done, 2),
+    (Task::Checkpoint, Said::EraIs(3), 3),
+    (Task::Keep, Said::Kept(1), 2),
+    (Task::Snap, Said::Done, 2),
+    (Task::Digest, Said::Digested(1, None), 2),
+];
+
+/// A command behind a checkpoint whose sync failed, and another sync too where the era behind both is the first.
+fn behind_failure(task: Task, said: Said, era: u32) -> Row {
+    let is_stored = era > 1;
+    Row {
+        stop: (DiskCall::Sync, 3, if is_stored { 4 } else { 5 }),
+        tasks: [
+            Task::Checkpoint,
+            task,
+            Task::Nothing,
+            Task::Nothing,
+            Task::Nothing,
+            Task::Nothing,
+        ],
+        said: [
+            Said::Fault(1),
+            said,
+            Said::Done,
+            Said::Done,
+            Said::Done,
+            Said::Done,
+        ],
+        tear: Tear::Old,
+        left: Left {
+            era,
+            is_held: is_stored && task == Task::Snap,
+            marked: [is_stored && task == Task::Mark(0), false, false, false],
+        },
+    }
+}
+
+#[test]
+fn each_command_stores_the_era_first(rt: HostRuntime) -> Result<(), Fail> {
+    for (task, said, era) in NEXT {
+        let stored = behind_failure(task, said, era);
+        let unstored = behind_failure(task, Said::Fault(2), 1);
+        assert_eq!(rt; first_unmet(rt.alloc(), &[stored, unstored])?, None);
+    }
+    Ok(())
+}
+
+/// Eras that a stripe inside keeps: a stored one, and one that a failed checkpoint left unstored.
+const KEPT: [Row; 2] = [
+    Row {
+        stop: WHOLE,
+        tasks: [
+            Task::Mark(0),
+            Task::Keep,
+            Task::Mark(1),
+            Task::Checkpoint,
+            Task::Keep,
+            Task::Blocks(2, false),
+        ],
+        said: [
+            Said::Done,
+            Said::Kept(1),
+            Said::Done,
+            Said::EraIs(2),
+            Said::Kept(1),
+            Said::Listed([false, false, false, false]),
+        ],
+        tear: Tear::Old,
+        left: Left {
+            era: 2,
+            is_held: false,
+            marked: [true, true, false, false],
+        },
+    },
+    Row {
+        stop: (DiskCall::Sync, 3, 5),
+        tasks: [
+            Task::Checkpoint,
+            Task::Keep,
+            Task::Keep,
+            Task::Checkpoint,
+            Task::Nothing,
+            Task::Nothing,
+        ],
+        said: [
+            Said::Fault(1),
+            Said::Fault(2),
+            Said::Kept(1),
+            Said::EraIs(3),
+            Said::Done,
+            Said::Done,
+        ],
+        tear: Tear::Old,
+        left: Left {
+            era: 3,
+            is_held: false,
+            marked: [false, false, false, false],
+        },
+    },
+];
+
+#[test]
+fn a_stripe_inside_keeps_the_era(rt: HostRuntime) -> Result<(), Fail> {
+    assert_eq!(rt; first_unmet(rt.alloc(), &KEPT)?, None);
+    Ok(())
+}
+
 /// Snapshots and digest steps whose commit fails.
 const STEPS: [Row; 3] = [
     Row {

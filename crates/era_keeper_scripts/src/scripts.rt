@@ -1,13 +1,13 @@
 //! Scripts of six tasks with failing calls of the metadata disk, and what a look finds after a crash behind them.
 
 ghost use Rattle.std.specs.Prelude.{OnOk};
-ghost use Rattle.era_keeper_scripts.specs.Benches.{IsBench};
+ghost use Rattle.era_keeper_scripts.specs.Benches.{IsBench, IsOutside};
 
-use crate::benches::start;
+use crate::benches::{Bench, start};
 use crate::commands::{Flags, Said, Task, flags_of, run};
 use era_base::{Disk, Memory};
 use era_disks::{DiskCall, MemDisk, Tear};
-use era_gate::{Gate, Pass};
+use era_gate::{Gate, Pass, StripeSeat};
 use era_keeper::Keeper;
 use era_meta::Meta;
 use std::alloc::Global;
@@ -47,18 +47,20 @@ fn stopping(alloc: Global, stop: Stop) -> Result<MemDisk, Memory> {
 fn answers_of<D: Disk>(
     alloc: Global,
     gate: &Gate,
+    stripe: &mut StripeSeat,
     keeper: &mut Keeper<D>,
     pass: &mut Pass,
     tasks: [Task; 6],
 ) -> Result<[Said; 6], Memory>
-    requires { IsBench D.Disk 0 gate.now keeper.old pass.old }
+    requires bench { IsBench D.Disk 0 gate.now keeper.old pass.old }
+    requires outside { IsOutside gate.now stripe.old }
 {
-    let first = run(alloc, gate, keeper, pass, 0, tasks[0])?;
-    let second = run(alloc, gate, keeper, pass, 1, tasks[1])?;
-    let third = run(alloc, gate, keeper, pass, 2, tasks[2])?;
-    let fourth = run(alloc, gate, keeper, pass, 3, tasks[3])?;
-    let fifth = run(alloc, gate, keeper, pass, 4, tasks[4])?;
-    let sixth = run(alloc, gate, keeper, pass, 5, tasks[5])?;
+    let first = run(alloc, gate, stripe, keeper, pass, 0, tasks[0])?;
+    let second = run(alloc, gate, stripe, keeper, pass, 1, tasks[1])?;
+    let third = run(alloc, gate, stripe, keeper, pass, 2, tasks[2])?;
+    let fourth = run(alloc, gate, stripe, keeper, pass, 3, tasks[3])?;
+    let fifth = run(alloc, gate, stripe, keeper, pass, 4, tasks[4])?;
+    let sixth = run(alloc, gate, stripe, keeper, pass, 5, tasks[5])?;
     Ok([first, second, third, fourth, fifth, sixth])
 }
 
@@ -75,18 +77,44 @@ fn left_on(alloc: Global, disk: MemDisk) -> Result<Option<Left>, Memory> {
     }))
 }
 
+/// How six tasks were answered, and the disk behind them.
+#[derive(Drop)]
+struct Answered<D> {
+    said: [Said; 6],
+    disk: D,
+}
+
 /// How six tasks were answered, and what a look found then; none where an opening was refused.
 pub type Went = Option<([Said; 6], Option<Left>)>;
+
+/// How tasks are answered over a disk, and the disk behind them; none where its opening is refused.
+fn answer_all<D: Disk + Drop>(
+    alloc: Global,
+    disk: D,
+    tasks: [Task; 6],
+) -> Result<Option<Answered<D>>, Memory> {
+    let Some(bench) = start(alloc, disk)? else {
+        return Ok(None);
+    };
+    let Bench {
+        gate,
+        mut stripe,
+        mut keeper,
+        mut pass,
+    } = bench;
+    let said = answers_of(alloc, &gate, &mut stripe, &mut keeper, &mut pass, tasks)?;
+    let disk = keeper.meta.into_disk();
+    Ok(Some(Answered { said, disk }))
+}
 
 /// How the tasks of a row are answered, and what a look finds after the crash behind them.
 fn went(alloc: Global, row: Row) -> Result<Went, Memory> {
     let disk = stopping(alloc, row.stop)?;
-    let Some((gate, mut keeper, mut pass)) = start(alloc, disk)? else {
+    let Some(end) = answer_all(alloc, disk, row.tasks)? else {
         return Ok(None);
     };
-    let said = answers_of(alloc, &gate, &mut keeper, &mut pass, row.tasks)?;
-    let (meta, _, _) = keeper.close();
-    let mut disk = meta.into_disk();
+    let said = end.said;
+    let mut disk = end.disk;
     disk.crash(row.tear)?;
     Ok(Some((said, left_on(alloc, disk)?)))
 }
