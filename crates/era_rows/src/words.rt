@@ -167,7 +167,7 @@ const LATER: Row<'static> = Row {
     ..USAGE
 };
 
-static NOT_YET: [Row<'static>; 6] = [
+static NOT_YET: [Row<'static>; 5] = [
     Row {
         words: &["serve", TABLE, "--stripes", "5"],
         ..LATER
@@ -182,10 +182,6 @@ static NOT_YET: [Row<'static>; 6] = [
     },
     Row {
         words: &["load", TABLE, "7"],
-        ..LATER
-    },
-    Row {
-        words: &["backup", "meta", "origin", "--written-since=1"],
         ..LATER
     },
     Row {

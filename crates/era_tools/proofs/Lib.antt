@@ -5,3 +5,6 @@ pub mod KeptReads
 pub mod PutBack
 pub mod ImageTold
 pub mod Restored
+pub mod Copies
+pub mod CopiesRead
+pub mod WrittenBlocks

@@ -8,17 +8,10 @@ use Rattle.era_base.specs.declared.disk.Disk.{Ghosts}
 use Rattle.era_meta.specs.declared.refusal.MetaError.{MetaError}
 use Rattle.era_meta.specs.Openings.{Tried}
 use Rattle.era_meta.specs.Trials.{look_trials}
-use Rattle.era_tools.specs.Around.{BayAround}
+pub use Rattle.era_tools.specs.Around.{BayAround, Between, lending}
 use Rattle.era_tools.specs.ClosedImages.{HasLent, HasTried}
 use Rattle.era_tools.proofs.KeptReads.{keeps-reads, others-kept, seen-went}
 use Rattle.era_tools.proofs.LastLoan.{ends_last, is_out-last}
-
--- What a bay had between two calls.
-pub record Between (D : Type 0) : Type 0 where
-  pub sizes : List ℕ → Option ℕ
-  pub reads : List ℕ → ℕ → Option (List ℕ)
-  pub loans : List (Loan D)
-  pub faults : ℕ
 
 -- The call that put a disk back.
 pub record PutsBack {D : Type 0} (disk : Ghosts D) (between : Between D) (bay : BayAround D) (back : D) : Type 0 where
@@ -27,18 +20,6 @@ pub record PutsBack {D : Type 0} (disk : Ghosts D) (between : Between D) (bay : 
   pub others : SameReadsBut (disk.place back).device (disk.place back).first (disk.sectors back) between.reads bay.reads'
   pub sizes : KeepsSizes between.sizes bay.sizes
   pub faults : bay.faults' ≡ between.faults
-
--- What the bay was between lending and taking back, as a whole call.
-abbrev pub lending : {D : Type 0} → BayAround D → Between D → BayAround D
-lending bay between = record {
-  sizes = between.sizes;
-  reads = bay.reads;
-  reads' = between.reads;
-  loans = bay.loans;
-  loans' = between.loans;
-  faults = bay.faults;
-  faults' = between.faults;
-}
 
 -- a disk that was lent last is out
 pub out : (D : Type 0) (disk : Ghosts D) (before loans : List (Loan D)) (lent back : D) → loans ≡ before ++ new_loan lent ∷ [] → SameDisk disk lent back

@@ -33,3 +33,34 @@ pub record LeavesBay {D : Type 0} (bay : BayAround D) : Type 0 where
 -- What was told of sectors is told again.
 abbrev pub KeepsReads : (List ℕ → ℕ → Option (List ℕ)) → (List ℕ → ℕ → Option (List ℕ)) → Type 0
 KeepsReads old new = (device : List ℕ) (sector : ℕ) (bytes : List ℕ) → old device sector ≡ Some bytes → new device sector ≡ Some bytes
+
+-- A bay between two calls.
+pub record Between (D : Type 0) : Type 0 where
+  pub sizes : List ℕ → Option ℕ
+  pub reads : List ℕ → ℕ → Option (List ℕ)
+  pub loans : List (Loan D)
+  pub faults : ℕ
+
+-- The bay around what was done before that, as a whole call.
+abbrev pub lending : {D : Type 0} → BayAround D → Between D → BayAround D
+lending bay between = record {
+  sizes = between.sizes;
+  reads = bay.reads;
+  reads' = between.reads;
+  loans = bay.loans;
+  loans' = between.loans;
+  faults = bay.faults;
+  faults' = between.faults;
+}
+
+-- The bay around what was done behind that, as a whole call.
+abbrev pub behind : {D : Type 0} → BayAround D → Between D → BayAround D
+behind bay between = record {
+  sizes = bay.sizes;
+  reads = between.reads;
+  reads' = bay.reads';
+  loans = between.loans;
+  loans' = bay.loans';
+  faults = between.faults;
+  faults' = bay.faults';
+}

@@ -9,3 +9,5 @@ pub mod ClosedImages
 pub mod CheckTool
 pub mod ReadTexts
 pub mod RestoreTool
+pub mod BackupText
+pub mod BackupTool

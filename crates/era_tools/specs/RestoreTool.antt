@@ -41,7 +41,7 @@ IsUntouched (Some (MetaSmall have need)) = Unit {0}
 IsUntouched (Some MetaMemory) = Unit {0}
 IsUntouched ended = ⊥
 
--- The metadata device was lent, restored with this end, and put back, and reads as that left it. At each moment each crash image was possible before, or, of a device that stood for marks, stands for those or for the new ones or is blank. Where the device wasn't touched it reads as before.
+-- The metadata device was lent, restored with this end, and put back, and reads as that left it. At each moment each crash image was possible before, or is one that a restoring may leave: of a device that stood for marks it stands for those or for the new ones or is blank, of a blank one it is blank or stands for the new ones. Where the device wasn't touched it reads as before.
 pub record HasRestored {D : Type 0} (disk : Ghosts D) (bay : BayAround D) (name : List ℕ) (m : BlockMarks) (lent : D) (ended : Option MetaError) : Type 0 where
   pub back : D
   pub taken : IsMetadataLent disk bay name lent

@@ -1,13 +1,19 @@
 //! The tools on closed images: each writes its text and tells how it ended.
 #![tactic(auto)]
 
+mod backing_up;
+mod backup_text;
 mod block_lines;
 mod checked_text;
+mod copy_error;
+mod copying;
 mod dump_text;
 mod images;
 mod kinds;
 pub mod laws;
 mod list_text;
+mod listed;
+mod listing;
 mod needs;
 mod opening;
 mod printing;
@@ -17,6 +23,7 @@ mod refusing_text;
 mod restoring;
 mod status;
 
+pub use backing_up::backup;
 pub use block_lines::print_blocks;
 pub use checked_text::print_checked;
 pub use dump_text::{print_dump, print_marks};

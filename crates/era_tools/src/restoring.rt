@@ -48,8 +48,9 @@ fn restore_metadata<B: Bay>(
 }
 
 /// Reads the whole dump text that the source has, and only then replaces what the metadata device of this name holds by
-/// its marks, and tells their era. A crash at any moment leaves the old marks, none, or the new ones, and a refused text
-/// leaves the device as it was.
+/// its marks, and tells their era. A crash at any moment leaves a device that stood for marks with those, with none, or with
+/// the new ones, and a blank one blank or with the new ones; of a damaged device nothing is said until the new marks are
+/// there. A refused text leaves the device as it was.
 pub fn restore<S: Source, K: Sink, B: Bay>(
     alloc: Global,
     meta: &str,

@@ -97,7 +97,7 @@ module _ (D : Type 0) (words : List (List ℕ)) (contents : List ℕ) (disks : G
   not_yet-runs (job.Serve line stripes digest) unserved (inr other) = usage-ends D bay streams status NotYet refl other.1
   not_yet-runs (job.Load line seed stripes) unserved ran = usage-ends D bay streams status NotYet refl ran
   not_yet-runs (job.Restore meta) unserved ran = absurd unserved
-  not_yet-runs (job.Backup meta origin since) unserved ran = unserved-ends D bay streams status disks (job.Backup meta origin since) tt unserved ran
+  not_yet-runs (job.Backup meta origin since) unserved ran = absurd unserved
   not_yet-runs (job.Apply origin) unserved ran = unserved-ends D bay streams status disks (job.Apply origin) tt unserved ran
   not_yet-runs (job.Need sectors size) unserved ran = absurd unserved
   not_yet-runs (job.Check meta) unserved ran = absurd unserved

@@ -85,7 +85,7 @@ module _ (D : Type 0) (bay : BayAround D) (streams : StreamsAround) (result : St
   -- a tool that isn't served, and no tool
   pub unserved-ends : (disk : Ghosts D) (job : Job) → IsTool job → IsUnserved job → RunsTool disk bay streams job result → Ends result Usage
   unserved-ends disk (job.Restore meta) tool unserved ran = absurd unserved
-  unserved-ends disk (job.Backup meta origin since) tool unserved ran = usage-ends NotYet refl ran
+  unserved-ends disk (job.Backup meta origin since) tool unserved ran = absurd unserved
   unserved-ends disk (job.Apply origin) tool unserved ran = usage-ends NotYet refl ran
   unserved-ends disk (job.Need sectors size) tool unserved ran = absurd unserved
   unserved-ends disk (job.Check meta) tool unserved ran = absurd unserved

@@ -1,6 +1,6 @@
 -- How calls of tools end: by a fault with a count that rose, with their disks put back, and by the statuses of their jobs.
-use Rattle.std.proofs.Common.{◌≡◌, ◌⊎◌, inl, inr, ℕ, Bool, List, [], ◌∷◌, ◌++◌, length, refl, ap, sym, ◌∙◌, subst, arith}
-use Rattle.std.specs.Prelude.{Option, Some, None, slice_get}
+use Rattle.std.proofs.Common.{◌≡◌, ◌⊎◌, inl, inr, ℕ, zero, suc, ◌≤◌, max, length-append, Bool, List, [], ◌∷◌, ◌++◌, length, refl, ap, sym, ◌∙◌, subst, arith}
+use Rattle.std.specs.Prelude.{Option, Some, None, Result, Ok, Err, slice_get}
 use Rattle.std.proofs.lemmas.Option.{slice_get_within}
 use Rattle.era_base.specs.Bay.{Loan, new_loan, ended_loan}
 use Rattle.era_base.specs.Faults.{Rose}
@@ -15,7 +15,12 @@ use Rattle.era_text.specs.ReadDumps.{HasFaultCause as HasTextFault}
 use Rattle.era_text.specs.declared.text_end.TextEnd.{TextEnd}
 use Rattle.era_text.specs.declared.text_end.TextEnd.TheVariants as end
 use Rattle.era_model.specs.Marks.{BlockMarks}
-use Rattle.era_tools.specs.Around.{BayAround}
+use Rattle.era_tools.specs.Around.{BayAround, Between, behind}
+use Rattle.era_tools.specs.BackupText.{backup_status}
+use Rattle.era_tools.specs.BackupTool.{HasCopyCause, IsOriginCause, IsUncopied, IsUnlisted, RunsBackup, RunsCopy, TellsCopies}
+use Rattle.era_tools.specs.declared.copy_error.CopyError.{CopyError}
+use Rattle.era_tools.specs.declared.copy_error.CopyError.TheVariants.{Origin, Output}
+use Rattle.era_tools.specs.declared.listing.Listing.{Listing}
 use Rattle.era_tools.specs.CheckTool.{RunsCheck, checked_status}
 use Rattle.era_tools.specs.ClosedImages.{HasTried, IsNotLent, IsUnopened, RunsOver}
 use Rattle.era_tools.specs.DumpTool.{EndsDump}
@@ -209,6 +214,37 @@ pub refused-no_source : (streams : StreamsAround) (result : Status) (refusal : R
 refused-no_source streams result refusal printed = λ is.
     absurd (ends-so streams.given streams.given' (refusal_text refusal) (refusal_status refusal) result printed (refusal-so refusal) (subst IsOfInput (sym is) tt))
 
+-- the last two loans
+two-last : {D : Type 0} (before : List (Loan D)) (one other found : Loan D) (index : ℕ) → length before ≤ index
+    → slice_get ((before ++ one ∷ []) ++ other ∷ []) index ≡ Some found → (found ≡ one) ⊎ (found ≡ other)
+two-last [] one other found zero from is = inl (cc)
+two-last [] one other found (suc zero) from is = inr (cc)
+two-last [] one other found (suc (suc index)) from is = absurd (cc)
+two-last (loan ∷ before) one other found zero from is = absurd (omega arith)
+two-last (loan ∷ before) one other found (suc index) from is = two-last before one other found index (omega arith) is
+
+-- how a copying ended
+ended-fault : {T : Type 0} (before now : ℕ) (ended : Result T CopyError) → HasCopyCause before now ended → backup_status ended ≡ Fault → Rose before now
+ended-fault before now (Ok value) cause is = cc
+ended-fault before now (Err (Origin count)) cause is = cause.1
+ended-fault before now (Err Output) cause is = cc
+
+ended-so : {T : Type 0} (ended : Result T CopyError) → IsOfInput (backup_status ended) → ⊥
+ended-so (Ok value) is = is
+ended-so (Err (Origin count)) is = is
+ended-so (Err Output) is = is
+
+-- an origin that wasn't lent
+origin-fault : (D : Type 0) (bay : BayAround D) (name : List ℕ) (sectors : ℕ) (refusal : Refusal) → IsOriginCause bay name sectors refusal → refusal_status refusal ≡ Fault → Rose bay.faults bay.faults'
+origin-fault D bay name sectors (BayFault count) cause is = cause.1
+origin-fault D bay name sectors NoRoom cause is = cc
+origin-fault D bay name sectors (OriginSmall have need) cause is = cc
+origin-fault D bay name sectors (NoGeometry error size) cause is = absurd cause
+origin-fault D bay name sectors SameDevice cause is = absurd cause
+origin-fault D bay name sectors (Metadata refused) cause is = absurd cause
+origin-fault D bay name sectors NoSnap cause is = absurd cause
+origin-fault D bay name sectors (DataFault count) cause is = absurd cause
+
 module _ (D : Type 0) (disk : Ghosts D) (bay : BayAround D) where
   -- a device that was lent and tried
   tried-returned : (name : List ℕ) (lent : D) (ended : Option MetaError) → HasTried disk bay name lent ended → AllReturned bay
@@ -372,6 +408,103 @@ module _ (D : Type 0) (disk : Ghosts D) (bay : BayAround D) where
     | inr failed ↦ let e : Sink ≡ Source = sym failed ∙ is in absurd (cc)
   ]
 
+  -- a backup: the metadata device was put back, and then the origin
+  both-returned : (between : Between D) (one back other other_back : D) → between.loans ≡ bay.loans ++ ended_loan (new_loan one) back ∷ []
+      → bay.loans' ≡ between.loans ++ ended_loan (new_loan other) other_back ∷ [] → AllReturned bay
+  both-returned between one back other other_back first second = λ index loan began found.
+      let before : Loan D = ended_loan (new_loan one) back in
+      let last : Loan D = ended_loan (new_loan other) other_back in
+      elim (two-last bay.loans before last loan index began
+      (subst (λ (loans : List (Loan D)). slice_get loans index ≡ Some loan) (second ∙ ap (λ (loans : List (Loan D)). loans ++ last ∷ []) first) found)) [
+        | inl same ↦ (back, ap (λ (loan : Loan D). loan.back) same)
+        | inr same ↦ (other_back, ap (λ (loan : Loan D). loan.back) same)
+      ]
+
+  copy-returned : (between : Between D) (one back : D) (origin : List ℕ) (listing : Listing) (since : ℕ) (given given' : Option (List ℕ)) (result : Status)
+      → between.loans ≡ bay.loans ++ ended_loan (new_loan one) back ∷ [] → RunsCopy disk (behind bay between) origin listing since given given' result → AllReturned bay
+  copy-returned between one back origin listing since given given' result first (inl tells) = both-returned between one back tells.lent tells.back first tells.read.loans
+  copy-returned between one back origin listing since given given' result first (inr tells) = one-returned D bay one back (tells.left.loans ∙ first)
+
+  unlisted-returned : (name : List ℕ) (refusal : Refusal) → IsUnlisted disk bay name refusal → AllReturned bay
+  unlisted-returned name refusal (inl cause) = unopened-returned name refusal cause
+  unlisted-returned name refusal (inr lacked) = tried-returned name lacked.2.lent None lacked.2.tried
+
+  backup-returned : (meta origin : List ℕ) (since : ℕ) (given given' : Option (List ℕ)) (result : Status) → RunsBackup disk bay meta origin since given given' result → AllReturned bay
+  backup-returned meta origin since given given' result (inl same) = none-returned D bay same.1.left.loans
+  backup-returned meta origin since given given' result (inr (differ, inl tells)) =
+      copy-returned tells.between tells.looked.lent tells.looked.tried.back origin tells.listing since given given' result tells.looked.tried.loans tells.copied
+  backup-returned meta origin since given given' result (inr (differ, inr tells)) = unlisted-returned meta tells.refusal tells.cause
+
+  -- a count that rose behind a moment rose in the call
+  rose-behind : (between : Between D) (one back : D) → between.loans ≡ bay.loans ++ ended_loan (new_loan one) back ∷ [] → between.faults ≡ bay.faults
+      → SomeCountRose disk (behind bay between) → SomeCountRose disk bay
+  rose-behind between one back first same (inl rose) = inl (subst (λ n. Rose n bay.faults') same rose)
+  rose-behind between one back first same (inr some) = inr (record {
+    loan = some.loan;
+    back = some.back;
+    came_back = record {
+      index = some.came_back.index;
+      began =
+          let later = some.came_back.began in
+          let more = length-append bay.loans (ended_loan (new_loan one) back ∷ []) in
+          omega (arith, later, more, ap length first);
+      found = some.came_back.found;
+      ended = some.came_back.ended;
+    };
+    rose = some.rose;
+  })
+
+  uncopied-fault : (old new : D) (refusal : Refusal) → IsUncopied disk old new refusal → refusal_status refusal ≡ Fault → Rose (disk.faults old) (disk.faults new)
+  uncopied-fault old new (DataFault count) cause is = cause.1
+  uncopied-fault old new NoRoom cause is = cc
+  uncopied-fault old new (NoGeometry error size) cause is = absurd cause
+  uncopied-fault old new SameDevice cause is = absurd cause
+  uncopied-fault old new (OriginSmall have need) cause is = absurd cause
+  uncopied-fault old new (Metadata refused) cause is = absurd cause
+  uncopied-fault old new NoSnap cause is = absurd cause
+  uncopied-fault old new (BayFault count) cause is = absurd cause
+
+  copies-fault : (old new : D) (listing : Listing) (since : ℕ) (given given' : Option (List ℕ)) (result : Status)
+      → TellsCopies disk listing since old new given given' result → result ≡ Fault → Rose (disk.faults old) (disk.faults new)
+  copies-fault old new listing since given given' result (inl (clean, prints)) is =
+      ended-fault (disk.faults old) (disk.faults new) prints.ended prints.cause (printed-fault given given' _ (backup_status prints.ended) result prints.printed is)
+  copies-fault old new listing since given given' result (inr tells) is =
+      uncopied-fault old new tells.refusal tells.cause (printed-fault given given' _ (refusal_status tells.refusal) result tells.printed is)
+
+  copy-fault : (origin : List ℕ) (listing : Listing) (since : ℕ) (given given' : Option (List ℕ)) (result : Status)
+      → RunsCopy disk bay origin listing since given given' result → HasFaultCause disk bay result
+  copy-fault origin listing since given given' result (inl tells) = λ is.
+      one-rose D disk bay tells.lent tells.back tells.read.loans (copies-fault tells.lent tells.back listing since given given' result tells.told is)
+  copy-fault origin listing since given given' result (inr tells) = λ is.
+      inl (origin-fault D bay origin listing.geometry.sectors tells.refusal tells.cause (printed-fault given given' _ (refusal_status tells.refusal) result tells.printed is))
+
+  unlisted-fault : (name : List ℕ) (refusal : Refusal) → IsUnlisted disk bay name refusal → refusal_status refusal ≡ Fault → SomeCountRose disk bay
+  unlisted-fault name refusal (inl cause) is = unopened-fault name refusal cause is
+  unlisted-fault name refusal (inr lacked) is = let e : refusal_status NoRoom ≡ Fault = subst (λ (r : Refusal). refusal_status r ≡ Fault) lacked.0 is in absurd (cc)
+
+  copies-so : (old new : D) (listing : Listing) (since : ℕ) (given given' : Option (List ℕ)) (result : Status) → TellsCopies disk listing since old new given given' result → IsOfInput result → ⊥
+  copies-so old new listing since given given' result (inl (clean, prints)) is = ends-so given given' _ (backup_status prints.ended) result prints.printed (ended-so prints.ended) is
+  copies-so old new listing since given given' result (inr tells) is = ends-so given given' _ (refusal_status tells.refusal) result tells.printed (refusal-so tells.refusal) is
+
+  copy-so : (origin : List ℕ) (listing : Listing) (since : ℕ) (given given' : Option (List ℕ)) (result : Status) → RunsCopy disk bay origin listing since given given' result → IsOfInput result → ⊥
+  copy-so origin listing since given given' result (inl tells) is = copies-so tells.lent tells.back listing since given given' result tells.told is
+  copy-so origin listing since given given' result (inr tells) is = ends-so given given' _ (refusal_status tells.refusal) result tells.printed (refusal-so tells.refusal) is
+
+module _ (D : Type 0) (disk : Ghosts D) (bay : BayAround D) where
+  backup-fault : (meta origin : List ℕ) (since : ℕ) (given given' : Option (List ℕ)) (result : Status) → RunsBackup disk bay meta origin since given given' result → HasFaultCause disk bay result
+  backup-fault meta origin since given given' result (inl same) = λ is.
+      let e : refusal_status SameDevice ≡ Fault = printed-fault given given' _ (refusal_status SameDevice) result same.1.printed is in absurd (cc)
+  backup-fault meta origin since given given' result (inr (differ, inl tells)) = λ is.
+      rose-behind D disk bay tells.between tells.looked.lent tells.looked.tried.back tells.looked.tried.loans tells.looked.tried.faults
+      (copy-fault D disk (behind bay tells.between) origin tells.listing since given given' result tells.copied is)
+  backup-fault meta origin since given given' result (inr (differ, inr tells)) = λ is.
+      unlisted-fault D disk bay meta tells.refusal tells.cause (printed-fault given given' _ (refusal_status tells.refusal) result tells.printed is)
+
+  backup-so : (meta origin : List ℕ) (since : ℕ) (given given' : Option (List ℕ)) (result : Status) → RunsBackup disk bay meta origin since given given' result → IsOfInput result → ⊥
+  backup-so meta origin since given given' result (inl same) is = ends-so given given' _ (refusal_status SameDevice) result same.1.printed (refusal-so SameDevice) is
+  backup-so meta origin since given given' result (inr (differ, inl tells)) is = copy-so D disk (behind bay tells.between) origin tells.listing since given given' result tells.copied is
+  backup-so meta origin since given given' result (inr (differ, inr tells)) is = ends-so given given' _ (refusal_status tells.refusal) result tells.printed (refusal-so tells.refusal) is
+
 -- what a list, a dump and a need tell is no fault
 listed-fault : (told : Listed) → listed_status told ≡ Fault → ⊥
 listed-fault (Blocks runs) is = cc
@@ -435,7 +568,7 @@ module _ (D : Type 0) (disk : Ghosts D) (bay : BayAround D) (streams : StreamsAr
       over-fault D disk bay meta streams.given streams.given' result _ (λ meaning. list-fault meaning.marks meaning.held since snap streams.given streams.given' result) ran.1
   tool-fault (job.Dump meta logical) ran = over-fault D disk bay meta streams.given streams.given' result _ (λ meaning prints. dump-fault result prints.ends) ran.1
   tool-fault (job.Restore meta) ran = restore-fault D disk bay (source_of streams) meta streams.given streams.given' result ran
-  tool-fault (job.Backup meta origin since) ran = words-no_fault NotYet ran
+  tool-fault (job.Backup meta origin since) ran = backup-fault D disk bay meta origin (max since 1) streams.given streams.given' result ran.1
   tool-fault (job.Apply origin) ran = words-no_fault NotYet ran
   tool-fault (job.Serve line stripes digest) ran = words-no_fault NoCommand ran
   tool-fault (job.Load line seed stripes) ran = words-no_fault NoCommand ran
@@ -447,7 +580,7 @@ module _ (D : Type 0) (disk : Ghosts D) (bay : BayAround D) (streams : StreamsAr
   tool-returned (job.Invalidate meta since snap) ran = over-returned D disk bay meta streams.given streams.given' result _ ran.1
   tool-returned (job.Dump meta logical) ran = over-returned D disk bay meta streams.given streams.given' result _ ran.1
   tool-returned (job.Restore meta) ran = restore-returned D disk bay (source_of streams) meta streams.given streams.given' result ran
-  tool-returned (job.Backup meta origin since) ran = words-returned NotYet ran
+  tool-returned (job.Backup meta origin since) ran = backup-returned D disk bay meta origin (max since 1) streams.given streams.given' result ran.1
   tool-returned (job.Apply origin) ran = words-returned NotYet ran
   tool-returned (job.Serve line stripes digest) ran = words-returned NoCommand ran
   tool-returned (job.Load line seed stripes) ran = words-returned NoCommand ran
@@ -460,7 +593,7 @@ module _ (D : Type 0) (disk : Ghosts D) (bay : BayAround D) (streams : StreamsAr
       over-so D disk bay meta streams.given streams.given' result _ (λ meaning. list-so meaning.marks meaning.held since snap streams.given streams.given' result) ran.1 is
   tool-so (job.Dump meta logical) tool served ran is = over-so D disk bay meta streams.given streams.given' result _ (λ meaning prints. dump-so result prints.ends) ran.1 is
   tool-so (job.Restore meta) tool served ran is = restore-so D disk bay (source_of streams) meta streams.given streams.given' result ran is
-  tool-so (job.Backup meta origin since) tool served ran is = served tt
+  tool-so (job.Backup meta origin since) tool served ran is = backup-so D disk bay meta origin (max since 1) streams.given streams.given' result ran.1 is
   tool-so (job.Apply origin) tool served ran is = served tt
   tool-so (job.Serve line stripes digest) tool served ran is = tool
   tool-so (job.Load line seed stripes) tool served ran is = tool
@@ -475,7 +608,7 @@ module _ (D : Type 0) (disk : Ghosts D) (bay : BayAround D) (streams : StreamsAr
   tool-source (job.Invalidate meta since snap) ran = λ is. absurd (tool-so (job.Invalidate meta since snap) tt (λ no. no) ran (of-source is))
   tool-source (job.Dump meta logical) ran = λ is. absurd (tool-so (job.Dump meta logical) tt (λ no. no) ran (of-source is))
   tool-source (job.Restore meta) ran = restore-source D disk bay (source_of streams) meta streams.given streams.given' result ran
-  tool-source (job.Backup meta origin since) ran = words-no_source NotYet ran
+  tool-source (job.Backup meta origin since) ran = λ is. absurd (tool-so (job.Backup meta origin since) tt (λ no. no) ran (of-source is))
   tool-source (job.Apply origin) ran = words-no_source NotYet ran
   tool-source (job.Serve line stripes digest) ran = words-no_source NoCommand ran
   tool-source (job.Load line seed stripes) ran = words-no_source NoCommand ran

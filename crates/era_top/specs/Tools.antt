@@ -1,5 +1,5 @@
 -- What a call of a tool reports, by what its words ask for. A definition takes the members of the disk's trait, as `D.Disk`.
-use Rattle.std.specs.Prelude.{◌≡◌, ◌⊎◌, ℕ, List}
+use Rattle.std.specs.Prelude.{◌≡◌, ◌⊎◌, ℕ, List, max}
 use Rattle.era_base.specs.declared.disk.Disk.{Ghosts}
 use Rattle.era_base.specs.declared.geometry.Geometry.{Geometry}
 use Rattle.era_base.specs.declared.geometry.GeomError.{GeomError}
@@ -8,6 +8,7 @@ use Rattle.era_words.specs.declared.job.Job.{Job}
 use Rattle.era_words.specs.declared.job.Job.TheVariants as job
 use Rattle.era_words.specs.Words.{IsJob, IsNoJob}
 use Rattle.era_tools.specs.Around.{BayAround, LeavesBay}
+use Rattle.era_tools.specs.BackupTool.{RunsBackup}
 use Rattle.era_tools.specs.CheckTool.{RunsCheck}
 use Rattle.era_tools.specs.ClosedImages.{RunsOver}
 use Rattle.era_tools.specs.DumpTool.{PrintsDump}
@@ -45,7 +46,8 @@ RunsTool disk bay streams (job.Dump meta logical) result =
     LeavesSource streams
     × RunsOver disk bay meta streams.given streams.given' result (λ meaning. PrintsDump (dumped_marks meaning.marks logical) streams.given streams.given' result)
 RunsTool disk bay streams (job.Restore meta) result = RunsRestore disk bay (source_of streams) meta streams.given streams.given' result
-RunsTool disk bay streams (job.Backup meta origin since) result = RefusesWords bay streams NotYet result
+RunsTool disk bay streams (job.Backup meta origin since) result =
+    LeavesSource streams × RunsBackup disk bay meta origin (max since 1) streams.given streams.given' result
 RunsTool disk bay streams (job.Apply origin) result = RefusesWords bay streams NotYet result
 RunsTool disk bay streams (job.Serve line stripes digest) result = RefusesWords bay streams NoCommand result
 RunsTool disk bay streams (job.Load line seed stripes) result = RefusesWords bay streams NoCommand result

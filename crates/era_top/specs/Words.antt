@@ -28,11 +28,10 @@ IsTool other = Unit {0}
 abbrev pub IsNoTool : List (List ℕ) → Type 0
 IsNoTool words = (job : Job) → IsTool job → IsJob words job → ⊥
 
--- A job isn't served yet: a session with an option that isn't the default, a load, and the tools over an origin.
+-- A job isn't served yet: a session with an option that isn't the default, a load, and the tool that writes to an origin.
 abbrev pub IsUnserved : Job → Type 0
 IsUnserved (job.Serve line stripes digest) = AreDefaults stripes digest → ⊥
 IsUnserved (job.Load line seed stripes) = Unit {0}
-IsUnserved (job.Backup meta origin since) = Unit {0}
 IsUnserved (job.Apply origin) = Unit {0}
 IsUnserved other = ⊥
 

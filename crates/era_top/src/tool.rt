@@ -13,7 +13,7 @@ ghost use Rattle.era_words.specs.Words.{texts_of};
 use crate::refusal::WordsRefusal;
 use era_base::{Bay, Sink, Source};
 use era_line::Part::Text;
-use era_tools::{Status, check, dump, invalidate, need, number, print, restore};
+use era_tools::{Status, backup, check, dump, invalidate, need, number, print, restore};
 use era_words::{Job, WordsError, read_words};
 use std::alloc::Global;
 
@@ -56,7 +56,12 @@ fn do_job<S: Source, K: Sink, B: Bay>(
         }
         Job::Dump { meta, logical } => dump(alloc, meta.as_str(), *logical, sink, bay),
         Job::Restore { meta } => restore(alloc, meta.as_str(), source, sink, bay),
-        Job::Backup { .. } | Job::Apply { .. } => refuse_words(sink, WordsRefusal::NotYet),
+        Job::Backup {
+            meta,
+            origin,
+            since,
+        } => backup(alloc, meta.as_str(), origin.as_str(), *since, sink, bay),
+        Job::Apply { .. } => refuse_words(sink, WordsRefusal::NotYet),
         Job::Serve { .. } | Job::Load { .. } => refuse_words(sink, WordsRefusal::NoCommand),
     }
 }

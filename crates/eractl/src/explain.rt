@@ -8,8 +8,9 @@ use era_disks::LastLines;
 const USAGE: &str =
     "call it as eractl serve '0 <sectors> era <metadata> <origin> <block size>', with the \
 commands as input, or as eractl need <sectors> <block size>, eractl check <metadata>, \
-eractl dump <metadata> [--logical], eractl restore <metadata>, with a dump as input, or \
-eractl invalidate <metadata> --written-since <era> [--metadata-snapshot]";
+eractl dump <metadata> [--logical], eractl restore <metadata>, with a dump as input, eractl \
+invalidate <metadata> --written-since <era> [--metadata-snapshot], or eractl backup <metadata> \
+<origin> --written-since <era>";
 
 /// What each kind of a refused line means.
 const LONG_LINE: &str = "the line has more than 131,200 bytes";
