@@ -1,0 +1,5 @@
+-- What an opening asks of a bay, and what the bay lends for it.
+pub mod Splits
+pub mod Lending
+-- Disks that were lent in a row, and are put back so.
+pub mod Loans
