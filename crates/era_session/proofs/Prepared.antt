@@ -75,7 +75,7 @@ pub over-opened : {D : Type 0} (disk : Ghosts D) (geometry : Geometry) (metadata
 over-opened {D} disk geometry metadata parts meta (Ok session) started begun over = record {
   started = subst (λ (m : Meta D). Started disk (start_trials geometry) metadata m.slots.disk None) (sym over.meta) started;
   begun = subst (λ (m : Meta D). IsBegun disk geometry metadata m) (sym over.meta) begun;
-  over = record { meta = refl; disks = over.disks; geometry = over.geometry; plan = over.plan ∙ ap (λ (m : Meta D). plan_of geometry m.marks.era (length parts)) (sym over.meta); pass = over.pass };
+  over = record { meta = refl; disks = over.disks; geometry = over.geometry; plan = over.plan ∙ ap (λ (m : Meta D). plan_of geometry m.marks.era (length parts)) (sym over.meta); pass = over.pass; uncut = over.uncut };
 }
 over-opened disk geometry metadata parts meta (Err refusal) started begun over = tt
 
@@ -122,6 +122,7 @@ opened-prepared {D} disk geometry metadata old new (Ok session) are opened = rec
     geometry = opened.over.geometry;
     plan = opened.over.plan ∙ ap (λ (all : List D). plan_of geometry session.keeper.meta.marks.era (length all)) (sym opened.over.disks);
     pass = opened.over.pass;
+    uncut = opened.over.uncut;
   };
 }
 opened-prepared disk geometry metadata old new (Err refusal) are opened = tt

@@ -45,14 +45,15 @@ keeps-itself pass = record {
 pub read-found : {D : Type 0} (disk : Ghosts D) (id : CmdId) (sector count : ℕ) (bytes : List ℕ) (before new : Stripe D) (pass pass' : PassToken) (keeper : Keeper D) → length bytes ≡ count * 512 → last_in before.entries ≡ []
     → Drew (read_events id sector before.index (Found bytes)) no_write before new pass pass'
     → (disk.tells ≡ true → Reads {T = Unit} {E = ℕ} (sector - before.first_block * before.geometry.block_sectors) bytes (Ok tt) (disk.history before.disk) (disk.history new.disk))
-    → SameStripe disk before new → HasCount {T = Unit} (disk.faults before.disk) (disk.faults new.disk) (Ok tt)
+    → new.cut ≡ before.cut → SameStripe disk before new → HasCount {T = Unit} (disk.faults before.disk) (disk.faults new.disk) (Ok tt)
     → ReadAt disk id sector count (Found bytes) (desk before keeper pass) (desk new keeper pass')
-read-found disk id sector count bytes before new pass pass' keeper size undrawn drew told same cause = record {
+read-found disk id sector count bytes before new pass pass' keeper size undrawn drew told cut same cause = record {
   answers = size;
   called = told;
   drew = (stripe-drew (read_events id sector before.index (Found bytes)) no_write before new pass pass' drew).drew;
   trail = sym (last-first before.entries new.entries _ undrawn (stripe-drew (read_events id sector before.index (Found bytes)) no_write before new pass pass' drew).last);
   keeper = refl;
+  cut = cut;
   same = record { stripe = same; keeper = keeper-same disk keeper };
   cause = (cause.cause.kept, refl);
 }
@@ -61,14 +62,15 @@ read-found disk id sector count bytes before new pass pass' keeper size undrawn 
 pub read-failed : {D : Type 0} (disk : Ghosts D) (id : CmdId) (sector count failed : ℕ) (bytes : List ℕ) (before new : Stripe D) (pass pass' : PassToken) (keeper : Keeper D) → last_in before.entries ≡ []
     → Drew (read_events id sector before.index (Fault DataDevice failed)) no_write before new pass pass'
     → (disk.tells ≡ true → Reads {T = Unit} {E = ℕ} (sector - before.first_block * before.geometry.block_sectors) bytes (Err failed) (disk.history before.disk) (disk.history new.disk))
-    → SameStripe disk before new → HasCount {T = Unit} (disk.faults before.disk) (disk.faults new.disk) (Err failed)
+    → new.cut ≡ before.cut → SameStripe disk before new → HasCount {T = Unit} (disk.faults before.disk) (disk.faults new.disk) (Err failed)
     → ReadAt disk id sector count (Fault DataDevice failed) (desk before keeper pass) (desk new keeper pass')
-read-failed disk id sector count failed bytes before new pass pass' keeper undrawn drew told same cause = record {
+read-failed disk id sector count failed bytes before new pass pass' keeper undrawn drew told cut same cause = record {
   answers = refl;
   called = λ tells. (bytes, told tells);
   drew = (stripe-drew (read_events id sector before.index (Fault DataDevice failed)) no_write before new pass pass' drew).drew;
   trail = sym (last-first before.entries new.entries _ undrawn (stripe-drew (read_events id sector before.index (Fault DataDevice failed)) no_write before new pass pass' drew).last);
   keeper = refl;
+  cut = cut;
   same = record { stripe = same; keeper = keeper-same disk keeper };
   cause = (cause.count, cause.cause.failed, refl);
 }

@@ -1,6 +1,7 @@
 -- A session that was begun over metadata and parts fits together, and stands in the opening of both.
 use Rattle.std.proofs.Common.{◌≡◌, ℕ, zero, suc, ◌+◌, ◌-◌, ◌*◌, ◌<◌, Bool, true, false, List, length, min, Option, Some, None, slice_get, refl, sym, ap, ◌∙◌, subst, arith, inl, inr}
-use Rattle.std.specs.Prelude.{unwrap_or, if◌then◌else◌}
+use Rattle.std.specs.Prelude.{is_some, unwrap_or, if◌then◌else◌}
+use Rattle.std.proofs.lemmas.Bool.{false≢true}
 use Rattle.std.proofs.lemmas.List.{map-id}
 use Rattle.std.proofs.lemmas.Option.{slice_get_within}
 use Rattle.era_base.specs.Flags.{tabulate}
@@ -23,6 +24,7 @@ use Rattle.era_model.specs.Legal.{IsOpening}
 use Rattle.era_model.specs.Marks.{BlockMarks}
 use Rattle.era_model.specs.Validity.{AreValidMarks, IsValidSnapshot}
 use Rattle.era_stripe.specs.Stripes.{IsNewSeat}
+use Rattle.era_stripe.specs.declared.cut_write.CutWrite.{CutWrite}
 use Rattle.era_stripe.specs.declared.stripe.Stripe.{Stripe}
 use Rattle.era_session.specs.Openings.{AreClean, AreNewSeats, AreParts, AreStripesOver, IsBegunOver, IsStripeOver, opening_of, origin_bytes, part_blocks}
 use Rattle.era_session.specs.Sessions.{AreSharedOut, HasRoomToEnd, IsStripeOf, SessionFits, SessionStands, session_blocks}
@@ -64,6 +66,11 @@ count-seats table seats count are = ap length are ∙ length-tabulated 0 count (
 
 same-blocks : {D : Type 0} (session : Session D) (sizes : Geometry) → session.geometry ≡ sizes → session_blocks session ≡ blocks_of sizes.sectors sizes.block_sectors
 same-blocks session sizes is = ap (λ (g : Geometry). blocks_of g.sectors g.block_sectors) is
+
+-- a stripe that is outside has no cut write
+uncut-outside : (cut : Option CutWrite) → false ≡ is_some cut → cut ≡ None
+uncut-outside None is = refl
+uncut-outside (Some cut) is = absurd (false≢true is)
 
 -- a stripe of the session, with its part and its seat
 pub record FoundOver {D : Type 0} (disk : Ghosts D) (sizes : Geometry) (parts : List D) (session : Session D) (k : ℕ) (stripe : Stripe D) : Type 0 where
@@ -145,6 +152,9 @@ begun-over {D} disk sizes parts session was = record {
   geometry = was.geometry;
   plan = was.plan;
   pass = was.pass;
+  uncut = λ k stripe at.
+      let found = found-over disk sizes parts session k stripe was at in
+      uncut-outside stripe.cut (sym (ap (λ (s : StripeToken). s.part.state.inside) (found.is.behind ∙ found.behind)) ∙ found.is.rest);
 }
 
 snapshot-valid : (snapshot : Snapshot) → AreValidMarks snapshot.marks → IsValidSnapshot (snapshot_marks snapshot)

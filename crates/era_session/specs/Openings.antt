@@ -19,6 +19,7 @@ use Rattle.era_notes.specs.Parts.{HoldsContent, part_sectors}
 use Rattle.era_session.specs.declared.preparing.PrepareError.{PrepareError}
 use Rattle.era_session.specs.declared.preparing.PrepareError.TheVariants.{Data, Meta as MetaRefused, Memory}
 use Rattle.era_session.specs.declared.preparing.PrepareRefusal.{PrepareRefusal}
+use Rattle.era_session.specs.Sessions.{IsUncut}
 use Rattle.era_session.specs.declared.session.Session.{Session}
 use Rattle.era_stripe.specs.Stripes.{IsAtRest, IsNewSeat, IsPartOf, StripeFits, StripeStands, part_of}
 use Rattle.era_stripe.specs.declared.stripe.Stripe.{Stripe}
@@ -146,13 +147,14 @@ AreNewSeats seats = (k : ℕ) (seat : StripeToken) → slice_get seats k ≡ Som
 abbrev pub stripe_disks : {D : Type 0} → Session D → List D
 stripe_disks {D} session = map (λ (stripe : Stripe D). stripe.disk) session.stripes.items
 
--- A session was begun over metadata and parts: its keeper has this metadata, its stripes have these parts in order, the gate is of this geometry, of the era of the marks and of as many stripes, and the pass has all lanes and draws.
+-- A session was begun over metadata and parts: its keeper has this metadata, its stripes have these parts in order, the gate is of this geometry, of the era of the marks and of as many stripes, the pass has all lanes and draws, and no write is cut.
 pub record IsBegunOver {D : Type 0} (sizes : Geometry) (metadata : Meta D) (parts : List D) (session : Session D) : Type 0 where
   pub meta : session.keeper.meta ≡ metadata
   pub disks : stripe_disks session ≡ parts
   pub geometry : session.geometry ≡ sizes
   pub plan : session.gate.plan ≡ plan_of sizes metadata.marks.era (length parts)
   pub pass : session.pass.part ≡ new_pass
+  pub uncut : IsUncut session
 
 -- A session was prepared over these devices: each part was synced, the metadata disk was opened for serving without a fault and has begun an era, and the session was begun over both.
 pub record IsPrepared {D : Type 0} (disk : Ghosts D) (geometry : Geometry) (metadata : D) (parts : List D) (session : Session D) : Type 0 where

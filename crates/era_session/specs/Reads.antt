@@ -57,7 +57,7 @@ ReadCalled disk first (Fault device count) old new =
     (bytes : List ℕ) × Reads {T = Unit} {E = ℕ} first bytes (Err count) (disk.history old.stripe.disk) (disk.history new.stripe.disk)
 ReadCalled disk first answer old new = ⊥
 
--- What a read did at its stripe: the keeper stays, the pass has the receipt of its event, whose entry is that of the stripe's last chunk, and the count tells a fault.
+-- What a read did at its stripe: the keeper and the stripe's cut write stay, the pass has the receipt of its event, whose entry is that of the stripe's last chunk, and the count tells a fault.
 pub record ReadAt {D : Type 0} (disk : Ghosts D) (id : CmdId) (sector count : ℕ) (answer : Answer) (old new : Desk D) : Type 0 where
   pub answers : IsReadAnswer count answer
   pub called : disk.tells ≡ true
@@ -65,6 +65,7 @@ pub record ReadAt {D : Type 0} (disk : Ghosts D) (id : CmdId) (sector count : �
   pub drew : PassDrew (read_events id sector old.stripe.index answer) no_write old.pass new.pass
   pub trail : entries_in drew.receipts ≡ last_in new.stripe.entries
   pub keeper : new.keeper ≡ old.keeper
+  pub cut : new.stripe.cut ≡ old.stripe.cut
   pub same : SameDesk disk old new
   pub cause : AnswersCounts disk answer old new
 

@@ -69,6 +69,10 @@ pub record SessionStands {D : Type 0} (disk : Ghosts D) (opening : Opening) (ses
   pub stripes : (k : ℕ) (stripe : Stripe D) → slice_get session.stripes.items k ≡ Some stripe → StripeStands disk opening stripe
   pub contents : disk.tells ≡ false → opening.contents.bytes ≡ None
 
+-- No write is cut in a session.
+abbrev pub IsUncut : {D : Type 0} → Session D → Type 0
+IsUncut {D} session = (k : ℕ) (stripe : Stripe D) → slice_get session.stripes.items k ≡ Some stripe → stripe.cut ≡ None
+
 -- Gate, geometry and shares of a session stay, and what is kept for the end.
 pub record SamePlan {D : Type 0} (old new : Session D) : Type 0 where
   pub gate : new.gate ≡ old.gate

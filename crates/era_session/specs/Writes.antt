@@ -22,7 +22,7 @@ use Rattle.era_session.specs.Chunks.{write_trail}
 use Rattle.era_session.specs.Desks.{Desk, DeskFits}
 use Rattle.era_session.specs.Receipts.{PassDrew}
 use Rattle.era_stripe.specs.Calls.{Drew, MayHold, SameButStay}
-use Rattle.era_stripe.specs.Results.{SettleDid, only, write_events}
+use Rattle.era_stripe.specs.Results.{AfterWrite, SettleDid, only, write_events}
 use Rattle.era_stripe.specs.Stripes.{part_of}
 use Rattle.era_stripe.specs.declared.cut_write.CutWrite.{CutWrite}
 
@@ -103,11 +103,12 @@ pub record HasAsked {D : Type 0} (disk : Ghosts D) (id : CmdId) (block : ℕ) (r
   pub did : MarkDid disk (has old.keeper.meta.marks.current block) id block result old.keeper new.keeper entered new.pass
   pub stripe : SameButStay old.stripe new.stripe
 
--- The bytes were written to their sectors of the part and synced, or the write is cut.
+-- The bytes were written to their sectors of the part and synced, and no write is cut; or this one is.
 pub record HasWritten {D : Type 0} (disk : Ghosts D) (id : CmdId) (block first : ℕ) (bytes : List ℕ) (result : Result Unit ℕ) (old new : Desk D) : Type 0 where
   pub drew : Drew (write_events id block old.stripe.era first bytes result) (only id) old.stripe new.stripe old.pass new.pass
   pub told : disk.tells ≡ true
       → WritesThenSyncs (sector_in (part_of old.stripe) block first) bytes result (disk.history old.stripe.disk) (disk.history new.stripe.disk)
+  pub after : AfterWrite id block first (length bytes) result new.stripe
   pub keeper : new.keeper ≡ old.keeper
 
 -- A write went through all its steps, to this result of the last.
@@ -124,12 +125,13 @@ pub record FailedToMark {D : Type 0} (disk : Ghosts D) (id : CmdId) (block count
   pub settling : HasSettled disk id (Ok tt) old settled
   pub marking : HasAsked disk id block (Err count) settled new
 
--- A write was refused, since an earlier one couldn't be resolved: nothing else was done.
+-- A write was refused, since an earlier one couldn't be resolved, which is still cut: nothing else was done.
 pub record FailedToSettle {D : Type 0} (disk : Ghosts D) (id : CmdId) (count : ℕ) (old new : Desk D) : Type 0 where
   pub settled : Desk D
   pub settling : HasSettled disk id (Err count) old settled
   pub refused : Drew (Refused id WriteKind (DataFault old.stripe.index count) ∷ []) no_write settled.stripe new.stripe settled.pass new.pass
   pub device : new.stripe.disk ≡ settled.stripe.disk
+  pub cut : new.stripe.cut ≡ settled.stripe.cut
   pub keeper : new.keeper ≡ settled.keeper
 
 -- Which steps a write made, each with its device calls, by its answer.

@@ -22,7 +22,7 @@ returns-in-Ok-clause-did g c =
       };
       read = λ keeper.
           read-found g.D.Disk c.args.id c.args.sector c.args.count c.read.new.into c.admit.new.self c.read.new.self c.args.pass.now c.read.new.pass keeper (size ∙ whole) c.admit.ensures.last
-          c.in-Ok.ensures.drew c.in-Ok.ensures.told c.in-Ok.ensures.same c.in-Ok.ensures.cause;
+          c.in-Ok.ensures.drew c.in-Ok.ensures.told c.in-Ok.ensures.stay.cut c.in-Ok.ensures.same c.in-Ok.ensures.cause;
     })
 
 pub returns-in-Err-clause-stands : goal.returns-in-Err-clause-stands
@@ -42,5 +42,5 @@ returns-in-Err-clause-did g c = record {
   };
   read = λ keeper.
       read-failed g.D.Disk c.args.id c.args.sector c.args.count c.in-Err.faults c.read.new.into c.admit.new.self c.read.new.self c.args.pass.now c.read.new.pass keeper c.admit.ensures.last
-      c.in-Err.ensures.drew c.in-Err.ensures.told c.in-Err.ensures.same c.in-Err.ensures.cause;
+      c.in-Err.ensures.drew c.in-Err.ensures.told c.in-Err.ensures.stay.cut c.in-Err.ensures.same c.in-Err.ensures.cause;
 }

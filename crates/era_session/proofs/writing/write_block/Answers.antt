@@ -48,6 +48,7 @@ returns-in-Err-clause-went g c =
       settling = record { did = c.in-Err.ensures.did; keeper = refl };
       refused = refused;
       device = c.refuse.ensures.same.disk;
+      cut = c.refuse.ensures.same.cut;
       keeper = refl;
     })
 
@@ -147,7 +148,7 @@ returns-in-Ok-clause-went g c =
       marked = marked;
       settling = record { did = c.in_default.ensures.did; keeper = refl };
       marking = c.in_default-mark_block.ensures.asked;
-      writing = record { drew = c.in-Ok.ensures.drew; told = c.in-Ok.ensures.told; keeper = refl };
+      writing = record { drew = c.in-Ok.ensures.drew; told = c.in-Ok.ensures.told; after = c.in-Ok.ensures.after; keeper = refl };
     }
 
 pub returns-in-Ok-clause-drew : goal.returns-in-Ok-clause-drew
@@ -194,7 +195,7 @@ returns-in-Err-write_seen-clause-went g c =
       marked = marked;
       settling = record { did = c.in_default.ensures.did; keeper = refl };
       marking = c.in_default-mark_block.ensures.asked;
-      writing = record { drew = c.in-Err-write_seen.ensures.drew; told = c.in-Err-write_seen.ensures.told; keeper = refl };
+      writing = record { drew = c.in-Err-write_seen.ensures.drew; told = c.in-Err-write_seen.ensures.told; after = c.in-Err-write_seen.ensures.after; keeper = refl };
     })
 
 pub returns-in-Err-write_seen-clause-drew : goal.returns-in-Err-write_seen-clause-drew
