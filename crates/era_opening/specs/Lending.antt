@@ -77,7 +77,8 @@ pub record HasLentParts {D : Type 0} (disk : Ghosts D) (bay : BayAround D) (orig
 abbrev pub LendsParts : {D : Type 0} → Ghosts D → BayAround D → List ℕ → Geometry → Split → List D → Result Unit Refusal → Type 0
 LendsParts disk bay origin geometry split parts (Ok value) =
     HasLentParts disk bay origin geometry split.each parts × (length parts ≡ split.count) × (bay.faults' ≡ bay.faults)
-LendsParts disk bay origin geometry split parts (Err refusal) = HasLentParts disk bay origin geometry split.each parts × IsUnanswered bay refusal
+LendsParts disk bay origin geometry split parts (Err refusal) =
+    HasLentParts disk bay origin geometry split.each parts × (length parts < split.count) × IsUnanswered bay refusal
 
 -- The whole metadata device was lent, or the bay didn't answer.
 abbrev pub LendsMetadata : {D : Type 0} → Ghosts D → BayAround D → List ℕ → Result D Refusal → Type 0

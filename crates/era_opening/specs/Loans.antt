@@ -1,8 +1,9 @@
 -- Disks that a bay lent one after another, and takes back in that order. A definition takes the members of the disk's trait, as `D.Disk`.
-use Rattle.std.specs.Prelude.{◌≡◌, ℕ, ◌+◌, ◌<◌, ◌≤◌, List, ◌++◌, map, slice_get, Option, Some}
+use Rattle.std.specs.Prelude.{◌≡◌, ℕ, ◌+◌, ◌<◌, ◌≤◌, true, List, [], ◌∷◌, ◌++◌, length, map, slice_get, Option, Some}
 use Rattle.era_base.specs.Bay.{ended_loan, new_loan, Loan, NowReadsAs}
 use Rattle.era_base.specs.Calls.{SameDisk}
 use Rattle.era_base.specs.declared.disk.Disk.{Ghosts}
+use Rattle.era_tools.specs.Around.{BayAround}
 
 -- A disk that was lent and put back: as it was lent, and as it was put back.
 pub record Taken (D : Type 0) : Type 0 where
@@ -63,3 +64,33 @@ SameReadsBeside {D} disk disks old new = (device : List ℕ) (sector : ℕ)
 abbrev pub ReadAsDisks : {D : Type 0} → Ghosts D → List D → (List ℕ → ℕ → Option (List ℕ)) → Type 0
 ReadAsDisks {D} disk disks reads = (k : ℕ) (one : D) → slice_get disks k ≡ Some one
     → NowReadsAs reads (disk.place one).device (disk.place one).first (disk.sectors one) (disk.history one).now
+
+-- Disks as they were lent, each with the one that is put back for it.
+abbrev pub taken_of : {D : Type 0} → List D → List D → List (Taken D)
+taken_of [] backs = []
+taken_of (one ∷ lent) [] = []
+taken_of (one ∷ lent) (back ∷ backs) = record { lent = one; back = back } ∷ taken_of lent backs
+
+-- Each disk lies where the one of its number was lent, and there are as many.
+pub record LieWhereLent {D : Type 0} (disk : Ghosts D) (lent backs : List D) : Type 0 where
+  pub count : length backs ≡ length lent
+  pub same : (k : ℕ) (one back : D) → slice_get lent k ≡ Some one → slice_get backs k ≡ Some back → SameDisk disk one back
+
+-- The last loans are out, those of disks that were lent in order and lie apart, and each of these disks lies where the one of its number was lent.
+pub record AreForLent {D : Type 0} (disk : Ghosts D) (before : List (Loan D)) (lent backs : List D) (loans : List (Loan D)) : Type 0 where
+  pub out : loans ≡ before ++ new_loans lent
+  pub apart : LieInOrder disk lent
+  pub lie : LieWhereLent disk lent backs
+
+-- Disks may go back: their loans are out last.
+pub record MayGoBack {D : Type 0} (disk : Ghosts D) (backs : List D) (loans : List (Loan D)) : Type 0 where
+  pub before : List (Loan D)
+  pub lent : List D
+  pub are : AreForLent disk before lent backs loans
+
+-- Disks were put back: the last loans, which were out, are ended by them in their order; the bay reads as they do there, and elsewhere as before; and it didn't fail.
+pub record ArePutBack {D : Type 0} (disk : Ghosts D) (bay : BayAround D) (backs : List D) : Type 0 where
+  pub loans : (before : List (Loan D)) (lent : List D) → AreForLent disk before lent backs bay.loans → bay.loans' ≡ before ++ loans_of (taken_of lent backs)
+  pub content : disk.tells ≡ true → ReadAsDisks disk backs bay.reads'
+  pub others : SameReadsBeside disk backs bay.reads bay.reads'
+  pub faults : bay.faults' ≡ bay.faults
