@@ -4,3 +4,4 @@ pub mod Texts
 pub mod Pieces
 pub mod Accounted
 pub mod Reported
+pub mod Streamed

@@ -1,8 +1,9 @@
-//! What a durable session reports: its journal, its text and its status, from how it was opened and what it served; and its
-//! first line and last ones.
+//! A durable session over a bay, from its opening to the putting back of its devices, with the text that it gives; and what it
+//! reports: its journal, its text and its status.
 #![tactic(auto)]
 
 pub mod laws;
 mod lines;
+mod session;
 
-pub use lines::{give_ending, give_open};
+pub use session::run_session;
