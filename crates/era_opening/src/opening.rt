@@ -80,7 +80,8 @@ fn open_parts<B: Bay>(
         × (geometry.sectors ≤ size) }
     requires room { IsRoomFor split parts.items (vec_capacity parts) }
     requires two { (B.D.place metadata).device ≢ line.now.origin }
-    requires out { (before : List (Loan B.D)) × (B.loans bay.old ≡ before ++ new_loan metadata ∷ []) }
+    requires out { (before : List (Loan B.D))
+        × (B.loans bay.old ≡ before ++ new_loan metadata ∷ []) }
     ensures opened { OpensParts B.D.Disk (bay_around B.Bay bay.old bay.new)
         line.now geometry split metadata result }
     ensures sizes { KeepsSizes (B.sizes bay.old) (B.sizes bay.new) }
